@@ -1,0 +1,5 @@
+pub mod Anded
+pub mod Splice
+pub mod Sweep
+pub mod Parts
+pub mod Bounded
