@@ -1,0 +1,24 @@
+-- `rules::past_end` meets its contract.
+-- Assumes nothing.
+use Rattle.rules.specs.Rules.{pastEnd}
+use borrow.Author.Needs.{needs}
+use Rattle.rules.proofs.past_end.Statement.{statement}
+use Rattle.rules.proofs.past_end.Tie as tie
+
+data-ended-requires : tie.Need-data-ended-requires
+data-ended-requires c κs = search needs
+
+output-ended-requires : tie.Need-output-ended-requires
+output-ended-requires c κs = search needs
+
+returns : tie.Need-returns
+unfolding pastEnd
+returns c =
+    let c2 = c .before .before in
+    rw (
+      c .output-ended .ensures,
+      c2 .data-ended .ensures,
+    )
+
+pub past-end-spec : {M : Type 1} → statement M
+past-end-spec = tie.close (tie.spec data-ended-requires output-ended-requires returns)

@@ -1,0 +1,92 @@
+-- The class table's rule against the command list: one computed test over its 256 entries.
+-- Assumes nothing.
+use mathlib.Core.Path.{_≡_, refl, sym, _∙_}
+use mathlib.Core.Bool.{Bool}
+use mathlib.Core.List.{List, [], _∷_}
+use Prim.Native.Nat.{ℕ, _<_}
+use native.Mathlib.Omega.{arith}
+use lib.Dec.{eqb, eqb→eq}
+use lib.ListN.{length, getD}
+use Rattle.target.specs.Commands.{classOf}
+use Rattle.target.specs.declared.commands.Class.{Class}
+use Rattle.target.specs.declared.commands.Class.the-variants.{First, Second, Both, Alone, Unknown}
+use Rattle.target.proofs.Table.{at}
+
+-- the number that stands in the table for a class
+abbrev pub numberOfClass : Class → ℕ
+numberOfClass Unknown = 0
+numberOfClass First = 1
+numberOfClass Second = 2
+numberOfClass Both = 3
+numberOfClass Alone = 4
+
+-- the code's table
+abbrev pub classes : List ℕ
+classes =
+    1 ∷ 0 ∷ 0 ∷ 0 ∷ 0 ∷ 1 ∷ 1 ∷ 0 ∷ 0 ∷ 0 ∷ 0 ∷ 0 ∷ 0 ∷ 0 ∷ 0 ∷ 0
+    ∷ 2 ∷ 0 ∷ 0 ∷ 0 ∷ 0 ∷ 0 ∷ 0 ∷ 0 ∷ 0 ∷ 0 ∷ 0 ∷ 0 ∷ 0 ∷ 0 ∷ 0 ∷ 0
+    ∷ 0 ∷ 0 ∷ 0 ∷ 0 ∷ 0 ∷ 0 ∷ 0 ∷ 0 ∷ 0 ∷ 0 ∷ 0 ∷ 0 ∷ 0 ∷ 0 ∷ 0 ∷ 0
+    ∷ 2 ∷ 0 ∷ 0 ∷ 0 ∷ 0 ∷ 0 ∷ 0 ∷ 0 ∷ 0 ∷ 0 ∷ 0 ∷ 0 ∷ 0 ∷ 0 ∷ 0 ∷ 0
+    ∷ 0 ∷ 0 ∷ 0 ∷ 0 ∷ 0 ∷ 0 ∷ 0 ∷ 0 ∷ 0 ∷ 0 ∷ 0 ∷ 0 ∷ 0 ∷ 0 ∷ 0 ∷ 0
+    ∷ 0 ∷ 0 ∷ 0 ∷ 0 ∷ 0 ∷ 0 ∷ 0 ∷ 0 ∷ 0 ∷ 0 ∷ 0 ∷ 0 ∷ 0 ∷ 0 ∷ 0 ∷ 0
+    ∷ 1 ∷ 0 ∷ 0 ∷ 0 ∷ 0 ∷ 0 ∷ 0 ∷ 0 ∷ 0 ∷ 0 ∷ 0 ∷ 0 ∷ 0 ∷ 0 ∷ 0 ∷ 0
+    ∷ 1 ∷ 0 ∷ 0 ∷ 0 ∷ 0 ∷ 0 ∷ 0 ∷ 0 ∷ 1 ∷ 0 ∷ 0 ∷ 0 ∷ 0 ∷ 0 ∷ 0 ∷ 0
+    ∷ 1 ∷ 0 ∷ 0 ∷ 0 ∷ 0 ∷ 2 ∷ 0 ∷ 0 ∷ 0 ∷ 0 ∷ 0 ∷ 0 ∷ 0 ∷ 0 ∷ 0 ∷ 0
+    ∷ 1 ∷ 0 ∷ 0 ∷ 0 ∷ 0 ∷ 0 ∷ 0 ∷ 0 ∷ 0 ∷ 0 ∷ 0 ∷ 0 ∷ 0 ∷ 0 ∷ 0 ∷ 0
+    ∷ 0 ∷ 0 ∷ 0 ∷ 0 ∷ 0 ∷ 0 ∷ 0 ∷ 0 ∷ 0 ∷ 0 ∷ 0 ∷ 0 ∷ 0 ∷ 0 ∷ 0 ∷ 0
+    ∷ 0 ∷ 0 ∷ 0 ∷ 0 ∷ 0 ∷ 0 ∷ 0 ∷ 0 ∷ 0 ∷ 0 ∷ 0 ∷ 0 ∷ 0 ∷ 0 ∷ 0 ∷ 0
+    ∷ 0 ∷ 0 ∷ 0 ∷ 0 ∷ 0 ∷ 0 ∷ 0 ∷ 0 ∷ 0 ∷ 0 ∷ 0 ∷ 0 ∷ 0 ∷ 0 ∷ 0 ∷ 0
+    ∷ 2 ∷ 0 ∷ 0 ∷ 0 ∷ 0 ∷ 0 ∷ 0 ∷ 0 ∷ 0 ∷ 0 ∷ 0 ∷ 0 ∷ 0 ∷ 0 ∷ 0 ∷ 0
+    ∷ 2 ∷ 0 ∷ 0 ∷ 0 ∷ 0 ∷ 0 ∷ 0 ∷ 0 ∷ 0 ∷ 0 ∷ 0 ∷ 0 ∷ 1 ∷ 0 ∷ 1 ∷ 1
+    ∷ 0 ∷ 0 ∷ 0 ∷ 0 ∷ 0 ∷ 0 ∷ 0 ∷ 0 ∷ 0 ∷ 0 ∷ 0 ∷ 0 ∷ 0 ∷ 0 ∷ 0 ∷ 4
+    ∷ []
+
+right : ℕ → ℕ → Bool
+right v x = eqb x (numberOfClass (classOf v))
+
+pub table-right : (v : ℕ) → v < 256 → getD classes v 0 ≡ numberOfClass (classOf v)
+unfolding classOf right
+table-right v h = eqb→eq (getD classes v 0) (numberOfClass (classOf v)) (at right classes tt v h)
+
+-- a class is told by its number
+by-number : (c d : Class) → numberOfClass c ≡ numberOfClass d → c ≡ d
+by-number First First e = refl
+by-number First Second e = absurd (omega arith)
+by-number First Both e = absurd (omega arith)
+by-number First Alone e = absurd (omega arith)
+by-number First Unknown e = absurd (omega arith)
+by-number Second First e = absurd (omega arith)
+by-number Second Second e = refl
+by-number Second Both e = absurd (omega arith)
+by-number Second Alone e = absurd (omega arith)
+by-number Second Unknown e = absurd (omega arith)
+by-number Both First e = absurd (omega arith)
+by-number Both Second e = absurd (omega arith)
+by-number Both Both e = refl
+by-number Both Alone e = absurd (omega arith)
+by-number Both Unknown e = absurd (omega arith)
+by-number Alone First e = absurd (omega arith)
+by-number Alone Second e = absurd (omega arith)
+by-number Alone Both e = absurd (omega arith)
+by-number Alone Alone e = refl
+by-number Alone Unknown e = absurd (omega arith)
+by-number Unknown First e = absurd (omega arith)
+by-number Unknown Second e = absurd (omega arith)
+by-number Unknown Both e = absurd (omega arith)
+by-number Unknown Alone e = absurd (omega arith)
+by-number Unknown Unknown e = refl
+
+-- so an entry that is a class's number says the class
+pub class-told : (v : ℕ) (d : Class) → v < 256 → getD classes v 0 ≡ numberOfClass d → d ≡ classOf v
+class-told v d h e = by-number d (classOf v) (sym e ∙ table-right v h)
+
+-- and one that is no other class's number says that there is none
+unlisted : (c : Class) (n : ℕ) → n ≡ numberOfClass c → (n ≡ 1 → ⊥) → (n ≡ 2 → ⊥) → (n ≡ 3 → ⊥) → (n ≡ 4 → ⊥) → Unknown ≡ c
+unlisted First n e a b c d = absurd (a e)
+unlisted Second n e a b c d = absurd (b e)
+unlisted Both n e a b c d = absurd (c e)
+unlisted Alone n e a b c d = absurd (d e)
+unlisted Unknown n e a b c d = refl
+
+pub unknown-told : (v : ℕ) → v < 256 → (getD classes v 0 ≡ 1 → ⊥) → (getD classes v 0 ≡ 2 → ⊥) → (getD classes v 0 ≡ 3 → ⊥) → (getD classes v 0 ≡ 4 → ⊥) → Unknown ≡ classOf v
+unknown-told v h = unlisted (classOf v) (getD classes v 0) (table-right v h)

@@ -1,0 +1,4 @@
+pub mod Widths
+pub mod Table
+pub mod Classes
+pub mod Firsts

@@ -1,0 +1,6 @@
+pub mod Pick
+pub mod Numbers
+pub mod Address
+pub mod Commands
+pub mod Place
+pub mod Events

@@ -1,0 +1,62 @@
+#!/bin/sh
+# Runs the generator with each builder's error switched on in the plain model,
+# and says whether its lines show it. Fails where one is missed.
+set -eu
+cd "$(dirname "$0")"
+out=../target/judge
+./build.sh build
+"$out/generate-errors" > "$out/errors-none.txt"
+
+total=0
+caught=0
+while IFS= read -r what; do
+    total=$((total + 1))
+    "$out/generate-errors" -x "$total" > "$out/errors-one.txt" || true
+    changed=$(diff "$out/errors-none.txt" "$out/errors-one.txt" | grep -c '^> [0-9]' || true)
+    if [ "$changed" -gt 0 ]; then
+        caught=$((caught + 1))
+        echo "$total caught, $changed lines changed: $what"
+    else
+        echo "$total MISSED: $what"
+    fi
+done <<'LIST'
+80h clears every register while program-clear is on
+80h clears one register while program-clear is off
+10h stores the register's byte, no AND
+the block field is read by division by pages a block
+output stays alive after a refusal
+column P is accepted
+data in at P is accepted
+ECh ends at 769
+a page takes one program too many
+the LUN after the last is accepted
+3 before 1
+5 before 4
+6 before 3
+a finish event ends the selected LUN's work
+a read leaves FAIL as it is
+FFh leaves the selected LUN
+FFh leaves program-clear on
+status without the protect line
+an odd byte is always answered 13
+60h looks at the page bits
+78h looks at the block field
+7 also for 80h
+an erase leaves the counts
+EFh takes hold at its first byte
+a row refused by 5 selects its LUN
+FAIL shows while the LUN works
+10h is accepted inside an 85h move
+a bad record drops the sequence
+no reply room is asked for an odd byte
+a protect event to the same level is accepted while busy
+a finish event ends output
+no rest at the start of the second and third copy
+more LUNs than one without feature bit 1
+power-on does not look at flags
+05h reads LUN 0
+data out of a register whose LUN works
+06h does not select
+LIST
+echo "$caught of $total errors caught"
+[ "$caught" -eq "$total" ]

@@ -1,0 +1,469 @@
+/* Checks of the plain model: document 01's whole case, its cases (a) to (j),
+ * the makers' CRCs, and the readings that are easy to get wrong. */
+#include "plain.h"
+#include "maker-pages.h"
+
+#include <stdio.h>
+#include <string.h>
+
+#define ALL_OPTIONS 0x004C      /* 78h, 06h, EEh/EFh */
+#define ALL_FEATURES 0x0102     /* many LUNs, 40h */
+
+static unsigned checks, wrong;
+
+static void check(bool ok, const char *what)
+{
+    checks++;
+    if (!ok) {
+        wrong++;
+        printf("WRONG: %s\n", what);
+    }
+}
+
+/* A part small enough to lie in one struct. */
+struct bench {
+    struct plain_target t;
+    uint8_t page[256];
+    uint8_t array[40000], registers[4096], counts[256], flags[64];
+    size_t array_len, registers_len, counts_len, flags_len;
+};
+
+static void put_number(uint8_t *page, unsigned at, unsigned bytes, uint32_t n)
+{
+    for (unsigned i = 0; i < bytes; i++)
+        page[at + i] = (uint8_t)(n >> (8 * i));
+}
+
+/* By long division, another way than the model's. */
+static uint16_t second_crc(const uint8_t *page)
+{
+    uint32_t remainder = 0x4F4E;
+    for (unsigned bit = 0; bit < 254 * 8; bit++) {
+        uint32_t in = page[bit / 8] >> (7 - bit % 8) & 1;
+        uint32_t top = remainder >> 15 & 1;
+        remainder = remainder << 1 & 0xFFFF;
+        if (top != in)
+            remainder ^= 0x8005;
+    }
+    return (uint16_t)remainder;
+}
+
+static void make_page(uint8_t *page, uint32_t data, uint32_t spare, uint32_t pages,
+                      uint32_t blocks, uint32_t luns, uint32_t programs,
+                      uint32_t features, uint32_t optional)
+{
+    memset(page, 0, 256);
+    memcpy(page, "ONFI", 4);
+    put_number(page, 6, 2, features);
+    put_number(page, 8, 2, optional);
+    page[64] = 0x2C;
+    put_number(page, 80, 4, data);
+    put_number(page, 84, 2, spare);
+    put_number(page, 92, 4, pages);
+    put_number(page, 96, 4, blocks);
+    page[100] = (uint8_t)luns;
+    page[101] = 0x23;
+    page[110] = (uint8_t)programs;
+    put_number(page, 254, 2, second_crc(page));
+}
+
+static uint32_t power(struct bench *b)
+{
+    return plain_power_on(&b->t, b->page, 256, 0xDA, b->array, b->array_len,
+                          b->registers, b->registers_len, b->counts, b->counts_len,
+                          b->flags, b->flags_len);
+}
+
+static void make_bench(struct bench *b, uint32_t data, uint32_t spare, uint32_t pages,
+                       uint32_t blocks, uint32_t luns, uint32_t programs,
+                       uint32_t features, uint32_t optional)
+{
+    memset(b, 0, sizeof *b);
+    make_page(b->page, data, spare, pages, blocks, luns, programs, features, optional);
+    b->flags_len = luns * blocks;
+    b->counts_len = b->flags_len * pages;
+    b->registers_len = luns * (data + spare);
+    b->array_len = b->counts_len * (data + spare);
+    memset(b->array, 0xFF, b->array_len);
+    check(power(b) == 0, "power-on of a good part");
+}
+
+static void make_t1(struct bench *b)
+{
+    make_bench(b, 512, 16, 4, 8, 2, 4, ALL_FEATURES, ALL_OPTIONS);
+}
+
+static void make_t2(struct bench *b)
+{
+    make_bench(b, 512, 16, 3, 5, 2, 4, ALL_FEATURES, ALL_OPTIONS);
+}
+
+static size_t from_hex(const char *text, uint8_t *to)
+{
+    size_t n = 0;
+    unsigned half = 0, digits = 0;
+    for (; *text; text++) {
+        char c = *text;
+        unsigned d = c >= '0' && c <= '9' ? (unsigned)(c - '0')
+            : c >= 'A' && c <= 'F' ? (unsigned)(c - 'A' + 10) : 99;
+        if (d == 99)
+            continue;
+        half = half * 16 + d;
+        if (++digits % 2 == 0) {
+            to[n++] = (uint8_t)half;
+            half = 0;
+        }
+    }
+    return n;
+}
+
+/* Runs the records, as a trace and one by one, and compares the replies. */
+static void run(struct bench *b, const char *records, const char *replies, const char *what)
+{
+    static struct bench copy;
+    uint8_t in[512], want[512], got[512];
+    size_t n = from_hex(records, in), w = from_hex(replies, want);
+    size_t need = (n + 1) / 2 * 2;
+
+    copy = *b;
+    memset(got, 0xEE, sizeof got);
+    uint32_t r = plain_trace(&b->t, in, n, got, need, b->page, 256, b->array, b->array_len,
+                             b->registers, b->registers_len, b->counts, b->counts_len,
+                             b->flags, b->flags_len);
+    bool ok = r == 0 && w == need && memcmp(got, want, w) == 0 && got[need] == 0xEE;
+    check(ok, what);
+    if (!ok) {
+        printf("  got");
+        for (size_t i = 0; i < need; i++)
+            printf(" %02X", got[i]);
+        printf("\n");
+    }
+    for (size_t i = 0; i < n / 2; i++) {
+        uint32_t e = plain_event(&copy.t, in[2 * i], in[2 * i + 1], copy.page, 256,
+                                 copy.array, copy.array_len, copy.registers, copy.registers_len,
+                                 copy.counts, copy.counts_len, copy.flags, copy.flags_len);
+        ok = ok && got[2 * i] == e >> 8 && got[2 * i + 1] == (e & 0xFF);
+    }
+    check(!ok || (memcmp(&copy.t, &b->t, sizeof copy.t) == 0
+                  && memcmp(copy.array, b->array, sizeof copy.array) == 0
+                  && memcmp(copy.registers, b->registers, sizeof copy.registers) == 0
+                  && memcmp(copy.counts, b->counts, sizeof copy.counts) == 0),
+          "a trace ends as its events one by one");
+}
+
+static void rest(struct bench *b, uint32_t which, size_t start, size_t length, const char *what)
+{
+    size_t s, l;
+    uint32_t w = plain_rest(&b->t, 256, b->array_len, b->registers_len, b->counts_len,
+                            b->flags_len, &s, &l);
+    check(w == which && s == start && l == length, what);
+}
+
+static void whole_case(struct bench *b)
+{
+    make_t1(b);
+    run(b, "00FF 0090 0120 0300 0300 0300 0300 0300",
+        "0000 0000 0000 014F 014E 0146 0149 0208", "document 01's whole case");
+}
+
+static void lettered_cases(struct bench *b)
+{
+    make_t1(b);
+    check(b->array_len == 33792, "(a)");
+    b->array_len--;
+    check(power(b) == 24, "(a) one less");
+    b->array_len += 2;
+    check(power(b) == 24, "(a) one more");
+
+    make_t1(b);
+    run(b, "00FF 0080 0100 0100 0137 0100 0100 0211 0010",
+        "0000 0000 0000 0000 0000 0000 0000 0000 0000", "(b) program row 55");
+    check(b->array[29040] == 0x11 && b->counts[55] == 1, "(b) array place");
+    check(b->t.lun[1].working && !b->t.lun[0].working && b->t.selected == 1, "(b) LUN 1");
+    b->array[29040] = 0xFF;
+    bool clean = true;
+    for (size_t i = 0; i < b->array_len; i++)
+        clean = clean && b->array[i] == 0xFF;
+    check(clean, "(b) nowhere else");
+
+    make_t2(b);
+    run(b, "00FF 0080 0100 0100 0112 0100 0100 0222 0010",
+        "0000 0000 0000 0000 0000 0000 0000 0000 0000", "(c) program row 18");
+    check(b->array[(4 * 3 + 2) * 528] == 0x22 && b->counts[14] == 1, "(c) block 4, page 2");
+
+    make_t2(b);
+    run(b, "00FF 0080 0100 0100 010F 0100 0100", "0000 0000 0000 0000 0000 0000 0204", "(d)");
+    run(b, "00FF 0080 0100 0100 0114 0100 0100", "0000 0000 0000 0000 0000 0000 0204", "(e)");
+    make_t1(b);
+    run(b, "00FF 0080 0100 0100 0140 0100 0100", "0000 0000 0000 0000 0000 0000 0204", "(f) 80h");
+    run(b, "0078 0140 0100 0100", "0000 0000 0000 0204", "(f) 78h");
+    run(b, "0006 0100 0100 0140 0100 0100", "0000 0000 0000 0000 0000 0204", "(f) 06h");
+    run(b, "0005 010F 0102 00E0", "0000 0000 0000 0000", "(g) column 527");
+    run(b, "0005 0110 0102", "0000 0000 0204", "(g) column 528");
+
+    make_t1(b);
+    b->array[0] = 0xA5;
+    run(b, "00FF 0080 0100 0100 0100 0100 0100 023C 0010",
+        "0000 0000 0000 0000 0000 0000 0000 0000 0000", "(h) program");
+    check(b->array[0] == 0x24, "(h)");
+
+    make_t1(b);
+    b->flags[0] = 1;
+    run(b, "00FF 0070 0300", "0000 0000 01E0", "(i) ready");
+    run(b, "0060 0100 0100 0100 00D0 0070 0300 0400 0300",
+        "0000 0000 0000 0000 0000 0000 0180 0000 01E1", "(i) working, failed");
+    run(b, "00FF 0500 0070 0300", "0000 0000 0000 0160", "(i) line low");
+
+    make_t1(b);
+    run(b, "00FF 0080 010F 0102 0100 0100 0100 0255 0256 0257",
+        "0000 0000 0000 0000 0000 0000 0000 0000 0208 0203", "(j)");
+    check(b->registers[527] == 0x55 && b->registers[528] == 0xFF, "(j) bytes");
+}
+
+static void maker_crcs(void)
+{
+    static uint8_t counts[2 * 4096 * 128], flags[2 * 4096], registers[2 * 8640];
+    uint8_t none = 0;
+    for (unsigned i = 0; i < 6; i++) {
+        const struct maker_page *m = &maker_pages[i];
+        struct plain_target t;
+        uint8_t page[256];
+        memcpy(page, m->page, 256);
+        unsigned luns = page[100];
+        check(page[254] + 256u * page[255] == m->crc, "printed CRC lies least significant first");
+        check(second_crc(page) == m->crc, "second CRC");
+        check(plain_power_on(&t, page, 256, m->device_id, &none, 0, registers, 0, counts, 0, flags, 0)
+              == 24, "maker's page up to its lengths");
+        /* The array is only measured at power-on, so its length alone will do. */
+        uint64_t bytes = (uint64_t)luns * 4096 * 128 * 8640;
+        if (bytes <= SIZE_MAX)
+            check(plain_power_on(&t, page, 256, m->device_id, &none, (size_t)bytes,
+                                 registers, luns * 8640, counts, luns * 4096u * 128,
+                                 flags, luns * 4096) == 0 && t.powered
+                  && t.page_size == 8640 && t.pages == 128 && t.blocks == 4096 && t.luns == luns
+                  && t.programs == 4 && t.maker == 0x2C && t.device == m->device_id,
+                  "maker's page powers on");
+        page[128] = 0;
+        check(plain_power_on(&t, page, 256, m->device_id, &none, 0, registers, 0, counts, 0, flags, 0)
+              == 22, "damaged page");
+        check(!t.powered && t.page_size == 0, "refused power-on leaves nothing");
+    }
+}
+
+static void records(struct bench *b)
+{
+    uint8_t in[3] = {0, 0xFF, 0}, out[4] = {9, 9, 9, 9};
+    make_t1(b);
+    run(b, "0070 01FF 02FF 0300 0301 0600 0502 0500 0501 0400 0300 01",
+        "0202 0202 0202 0202 020C 020C 020C 0000 0000 020A 0202 020C", "before the first FFh");
+    check(plain_trace(&b->t, in, 3, out, 3, b->page, 256, b->array, b->array_len, b->registers,
+                      b->registers_len, b->counts, b->counts_len, b->flags, b->flags_len) == 16
+          && out[0] == 9 && !b->t.reset_seen, "room for an odd byte too");
+    b->t.powered = false;
+    run(b, "00FF 0700 0402 05", "020D 020D 020D 020D", "unpowered");
+    rest(b, 0, 0, 0, "unpowered rest");
+
+    make_t1(b);
+    run(b, "00FF 0080 0100 0302 0900 0100 0500 0402 0503 0100 0100 0100 0210 0010 0400",
+        "0000 0000 0000 020C 020C 0000 020B 020A 020C 0000 0000 0000 0000 0000 0000",
+        "bench refusals drop no sequence");
+    check(b->array[0] == 0x10, "and the program is whole");
+    run(b, "0060 0100 0100 0100 00D0 0500 0502 0402 0400 0400",
+        "0000 0000 0000 0000 0000 020B 020C 020A 0000 020A", "bench events while a LUN works");
+}
+
+static void orders(struct bench *b)
+{
+    make_t1(b);
+    run(b, "00FF 0000 0101 0142 00E0 0030 0000 0042 0100",
+        "0000 0000 0000 0204 0203 0203 0000 0201 0203", "1 before 3, refusals drop");
+    run(b, "0060 0100 0100 0100 00D0 0090 0000 0090 0300",
+        "0000 0000 0000 0000 0000 0206 0000 0203 0203", "3 before 6");
+    run(b, "0000 0100 0100 0108 0101 0100", "0000 0000 0000 0000 0000 0204", "4 before 5, far LUN");
+    run(b, "0005 0110 0102 0005 0100 0100 0070 0300",
+        "0000 0000 0204 0000 0000 0205 0000 0180", "05h on a working LUN");
+    run(b, "0078 0120 0100 0100 0300 0070 0300 0300",
+        "0000 0000 0000 0000 01E0 0206 0203 0203", "78h while LUN 0 works, then 70h");
+    run(b, "0400 0070 0300", "0000 0000 01E0", "70h after the finish");
+    run(b, "0500 0080 0100 0100 0100 0100 0100 0010 0060 0100 0100 0100 00D0 0501",
+        "0000 0000 0000 0000 0000 0000 0000 0207 0000 0000 0000 0000 0207 0000",
+        "7 at 10h and D0h only");
+    run(b, "0078 0100 0300", "0000 0000 0203", "data out before the third cycle");
+    run(b, "0080 0100 0100 0100 0100 0100 0100", "0000 0000 0000 0000 0000 0000 0203",
+        "a sixth address");
+    run(b, "0080 0100 0100 0100 0100 0100 0085 0101 0010",
+        "0000 0000 0000 0000 0000 0000 0000 0000 0203", "10h with a half-given move");
+    run(b, "0080 0100 0100 0100 0100 0100 0085 0085",
+        "0000 0000 0000 0000 0000 0000 0000 0203", "85h in a move");
+    run(b, "0080 0100 0100 0100 0100 0100 0085 0110 0102",
+        "0000 0000 0000 0000 0000 0000 0000 0000 0204", "move to 528");
+    run(b, "0080 010F 0102 0100 0100 0100 0201 0085 0102 0100 0203 0103",
+        "0000 0000 0000 0000 0000 0000 0000 0000 0000 0000 0000 0203", "move at the end");
+    run(b, "0080 010F 0102 0100 0100 0100 0201 0010 0400",
+        "0000 0000 0000 0000 0000 0000 0000 0000 0000", "10h at the end");
+}
+
+static void outputs(struct bench *b)
+{
+    make_t1(b);
+    b->array[528 * 4 + 2] = 0x77;
+    b->array[528 * 4 + 527] = 0x88;
+    run(b, "00FF 0000 0102 0100 0104 0100 0100 0030", "0000 0000 0000 0000 0000 0000 0000 0000",
+        "read");
+    rest(b, 0, 0, 0, "no rest while it works");
+    run(b, "0400 0500 0501", "0000 0000 0000", "bench events keep output");
+    rest(b, 1, 2, 526, "rest from the column");
+    run(b, "0300", "0177", "first byte");
+    rest(b, 1, 3, 525, "rest after it");
+    run(b, "0005 010F 0102", "0000 0000 0000", "05h");
+    rest(b, 0, 0, 0, "no rest in a sequence");
+    run(b, "00E0 0300", "0000 0188", "last byte");
+    rest(b, 0, 0, 0, "no rest at the end");
+    run(b, "0300 0300", "0208 0203", "past the end, then no output");
+    run(b, "0006 010F 0102 0120 0100 0100 00E0 0300 0070 0006 010F 0102 011F 0100 0100 00E0 0300",
+        "0000 0000 0000 0000 0000 0000 0000 01FF 0000 0000 0000 0000 0000 0000 0000 0000 0188",
+        "06h on each LUN");
+    run(b, "0000 0100 0100 0100 0100 0100 0030 0300 0300 0400 0300",
+        "0000 0000 0000 0000 0000 0000 0000 0205 0203 0000 0203", "data out while it works");
+    run(b, "0090 0100 0300 0300 0300", "0000 0000 012C 01DA 0208", "IDs");
+    run(b, "0090 0101", "0000 0204", "90h with 01h");
+    run(b, "00EC 0120", "0000 0204", "ECh with 20h");
+    run(b, "00EC 0100", "0000 0000", "ECh");
+    for (unsigned i = 0; i < 768; i++) {
+        char want[8];
+        rest(b, 2, i % 256, 256 - i % 256, "rest of the present copy");
+        snprintf(want, sizeof want, "01%02X", b->page[i % 256]);
+        run(b, "0300", want, "parameter byte");
+    }
+    rest(b, 0, 0, 0, "rest after the third copy");
+    run(b, "0300 0300", "0208 0203", "byte 769");
+}
+
+static void features(struct bench *b)
+{
+    make_t1(b);
+    run(b, "00FF 00EF 0101 0240 0200 0200 00EE", "0000 0000 0000 0000 0000 0000 0203",
+        "three bytes of EFh");
+    run(b, "00EE 0101 0300 0300 0300 0300 0300", "0000 0000 0100 0100 0100 0100 0208",
+        "take no hold");
+    run(b, "00EF 0101 0240 0200 0200 0200 0200", "0000 0000 0000 0000 0000 0000 0203",
+        "the fifth byte");
+    run(b, "00EE 0101 0300 0300 0300 0300 0300 0300",
+        "0000 0000 0140 0100 0100 0100 0208 0203", "EEh");
+    run(b, "00EF 0101 0241 00EF 0101 0240 0240 00EF 0102 00EE 0100",
+        "0000 0000 0209 0000 0000 0000 0209 0000 0204 0000 0204", "9 and 4");
+    /* program-clear on: one register, at the third row cycle */
+    memset(b->registers, 0x12, sizeof b->registers);
+    run(b, "0080 0100 0100 0120 0100", "0000 0000 0000 0000 0000", "80h, clear on");
+    check(b->registers[0] == 0x12 && b->registers[528] == 0x12, "not yet");
+    run(b, "0100", "0000", "last row cycle");
+    check(b->registers[0] == 0x12 && b->registers[528] == 0xFF && b->registers[1055] == 0xFF
+          && b->registers[527] == 0x12, "LUN 1's only");
+    run(b, "00FF 00EE 0101 0300", "0000 0000 0000 0100", "FFh turns it off");
+    memset(b->registers, 0x12, sizeof b->registers);
+    run(b, "0080", "0000", "80h, clear off");
+    check(b->registers[0] == 0xFF && b->registers[1055] == 0xFF, "all at once");
+
+    make_bench(b, 16, 0, 1, 1, 1, 1, 0, 4);
+    run(b, "00FF 00EF 0101 0240 00EF 0101 0200 0200 0200 0200 0078 0006 00E0",
+        "0000 0000 0000 0209 0000 0000 0000 0000 0000 0000 0201 0201 0203",
+        "40h, 78h and 06h not offered");
+    make_bench(b, 16, 0, 1, 1, 1, 1, 0x100, 0x48);
+    run(b, "00FF 0000 00EE 0000 00EF 00EC", "0000 0000 0201 0000 0201 0000",
+        "EEh and EFh not offered");
+    run(b, "00FF 0078 0100 0100 0100 0300 0060 0101 0100 0100",
+        "0000 0000 0000 0000 0000 01E0 0000 0000 0000 0204", "fields of 0 bits");
+}
+
+static void rows(struct bench *b)
+{
+    make_t2(b);
+    run(b, "00FF 0060 010F 0100 0100 00D0 0400",
+        "0000 0000 0000 0000 0000 0000 0000", "60h does not look at page bits");
+    run(b, "0060 0114 0100 0100", "0000 0000 0000 0204", "but at the block");
+    run(b, "0078 013F 0100 0100 0300 0070 0300", "0000 0000 0000 0000 01E0 0000 01E0",
+        "78h only at the LUN");
+    check(b->t.selected == 1, "and selects it");
+    run(b, "0078 0140 0100 0100", "0000 0000 0000 0204", "78h of LUN 2");
+    check(b->t.selected == 1, "a refused row does not");
+    run(b, "0006 0100 0100 011F 0100 0100 00E0", "0000 0000 0000 0000 0000 0000 0000",
+        "06h only at the LUN");
+    run(b, "0078 0100 0100 0180", "0000 0000 0000 0204", "the LUN field is all the rest");
+}
+
+static void programs(struct bench *b)
+{
+    make_t1(b);
+    const char *program = "0080 0100 0100 0100 0100 0100 0010 0400 0070 0300";
+    const char *good = "0000 0000 0000 0000 0000 0000 0000 0000 0000 01E0";
+    const char *bad = "0000 0000 0000 0000 0000 0000 0000 0000 0000 01E1";
+    run(b, "00FF", "0000", "FFh");
+    for (unsigned i = 0; i < 4; i++)
+        run(b, program, good, "program with no data");
+    check(b->counts[0] == 4, "count rises by one");
+    run(b, program, bad, "the fifth fails");
+    check(b->counts[0] == 4, "count stays");
+    run(b, "0060 0100 0100 0100 00D0 0400 0300", "0000 0000 0000 0000 0000 0000 0203", "erase");
+    check(b->counts[0] == 0, "count 0 after erase");
+    run(b, program, good, "and again");
+    b->counts[0] = 200;
+    run(b, program, bad, "a count far above");
+    run(b, "0000 0100 0100 0100 0100 0100 0030 0400 0070 0300",
+        "0000 0000 0000 0000 0000 0000 0000 0000 0000 01E0", "a read sets FAIL 0");
+    b->flags[0] = 7;
+    b->array[1] = 0x5A;
+    run(b, "0060 0101 0100 0100 00D0 0400 0070 0300",
+        "0000 0000 0000 0000 0000 0000 0000 01E1", "a bad block is not erased");
+    check(b->array[1] == 0x5A && b->counts[0] == 200, "it stays");
+    run(b, "00FF 0070 0300", "0000 0000 01E0", "FFh sets FAIL 0");
+}
+
+static uint32_t refused_with(struct bench *b, unsigned at, unsigned bytes, uint32_t n)
+{
+    make_page(b->page, 512, 16, 4, 8, 2, 4, ALL_FEATURES, ALL_OPTIONS);
+    put_number(b->page, at, bytes, n);
+    put_number(b->page, 254, 2, second_crc(b->page));
+    return power(b);
+}
+
+static void power_ons(struct bench *b)
+{
+    make_t1(b);
+    memset(b->registers, 0x33, sizeof b->registers);
+    check(refused_with(b, 80, 4, 15) == 23 && refused_with(b, 80, 4, 16) == 24
+          && refused_with(b, 80, 4, 16384) == 24 && refused_with(b, 80, 4, 16385) == 23, "data");
+    check(refused_with(b, 84, 2, 2048) == 24 && refused_with(b, 84, 2, 2049) == 23, "spare");
+    check(refused_with(b, 92, 4, 0) == 23 && refused_with(b, 92, 4, 257) == 23
+          && refused_with(b, 92, 4, 65536 + 4) == 23, "pages");
+    check(refused_with(b, 96, 4, 0) == 23 && refused_with(b, 96, 4, 4097) == 23, "blocks");
+    check(refused_with(b, 100, 1, 0) == 23 && refused_with(b, 100, 1, 5) == 23, "LUNs");
+    check(refused_with(b, 6, 2, 0x103) == 23 && refused_with(b, 6, 2, 0x100) == 23, "features");
+    check(refused_with(b, 101, 1, 0x22) == 23, "address cycles");
+    check(refused_with(b, 110, 1, 0) == 23 && refused_with(b, 110, 1, 9) == 23, "programs");
+    check(refused_with(b, 0, 1, 'o') == 21, "signature");
+    check(b->registers[0] == 0x33, "a refusal changes no lent byte");
+    b->counts[63] = 5;
+    check(refused_with(b, 12, 1, 9) == 25, "count");
+    b->counts[63] = 4;
+    b->flags[15] = 2;
+    check(refused_with(b, 12, 1, 9) == 25, "flag");
+    b->flags[15] = 1;
+    check(refused_with(b, 12, 1, 9) == 0 && b->registers[1055] == 0xFF, "unlisted bytes");
+}
+
+int main(void)
+{
+    static struct bench b;
+    whole_case(&b);
+    lettered_cases(&b);
+    maker_crcs();
+    records(&b);
+    orders(&b);
+    outputs(&b);
+    features(&b);
+    rows(&b);
+    programs(&b);
+    power_ons(&b);
+    printf("%u checks, %u wrong\n", checks, wrong);
+    return wrong != 0;
+}
