@@ -4,3 +4,4 @@ pub mod Address
 pub mod Commands
 pub mod Place
 pub mod Events
+pub mod Sizes

@@ -5,6 +5,7 @@ pub mod commands;
 pub mod events;
 pub mod picks;
 pub mod place;
+pub mod sizes;
 
 ghost use mathlib.Core.Path.{_≡_};
 ghost use Rattle.target.specs.Numbers.{numberOf, replyFirst, replySecond};
