@@ -927,6 +927,18 @@ static void run_batch(struct plain_target *t, uint64_t *g, const uint8_t *record
     tally_replies(g, records, at, bytes, replies);
 }
 
+/* One record by the call for one event. */
+static void run_single(struct plain_target *t, uint64_t *g, const uint8_t *records, uint64_t at,
+                       const uint8_t *page, uint8_t *array, uint8_t *registers,
+                       uint8_t *counts, const uint8_t *flags)
+{
+    uint64_t reply = plain_event(t, records[at], records[at + 1], page, g[G_PAGE_LEN],
+                                 array, g[G_ARRAY_LEN], registers, g[G_REGISTERS_LEN],
+                                 counts, g[G_COUNTS_LEN], flags, g[G_FLAGS_LEN]);
+    absorb(g, reply);
+    tally(g, records[at], reply / 256, reply % 256);
+}
+
 static void absorb_rest(const struct plain_target *t, uint64_t *g, const uint8_t *page,
                         const uint8_t *registers)
 {
@@ -991,30 +1003,111 @@ static void spoil_output(struct plain_target *t, uint64_t what)
     }
 }
 
-/* Spoils of one lent length: one short. Called again with 1 it takes it back. */
-static void spoil_length(uint64_t *g, uint64_t what, uint64_t back)
+/* A sequence whose addresses have all come. */
+static void set_sequence(struct plain_target *t, uint8_t kind, uint8_t cycles, uint64_t column,
+                         uint64_t lun, uint64_t block, uint64_t page)
 {
-    if (what == 13)
-        g[G_ARRAY_LEN] = g[G_ARRAY_LEN] + back * 2 - 1;
-    if (what == 14)
-        g[G_REGISTERS_LEN] = g[G_REGISTERS_LEN] + back * 2 - 1;
-    if (what == 15)
-        g[G_COUNTS_LEN] = g[G_COUNTS_LEN] + back * 2 - 1;
-    if (what == 16)
-        g[G_FLAGS_LEN] = g[G_FLAGS_LEN] + back * 2 - 1;
-    if (what == 17)
-        g[G_PAGE_LEN] = g[G_PAGE_LEN] + back * 2 - 1;
+    t->output = (struct plain_output){0};
+    t->sequence = (struct plain_sequence){
+        .kind = kind, .cycles = cycles, .column = (uint32_t)column,
+        .page = (uint32_t)page, .block = (uint32_t)block, .lun = (uint32_t)lun};
 }
 
+/* Spoils of the sequence. */
+static void spoil_sequence(struct plain_target *t, uint64_t what)
+{
+    uint64_t size = t->page_size;
+    uint64_t luns = t->luns;
+    switch (what) {
+    case 31: set_sequence(t, PLAIN_SEQ_READ, 5, size, 0, 0, 0); break;
+    case 32: set_sequence(t, PLAIN_SEQ_READ, 5, 0, luns, 0, 0); break;
+    case 33: set_sequence(t, PLAIN_SEQ_PROGRAM, 5, size + 1, 0, 0, 0); break;
+    case 34: set_sequence(t, PLAIN_SEQ_PROGRAM, 5, 0, luns, 0, 0); break;
+    case 35: set_sequence(t, PLAIN_SEQ_ERASE, 3, 0, luns, 0, 0); break;
+    case 36: set_sequence(t, PLAIN_SEQ_LUN_COLUMN, 5, 0, luns, 0, 0); break;
+    case 37: set_sequence(t, PLAIN_SEQ_COLUMN, 2, size, 0, 0, 0); break;
+    case 38: set_sequence(t, PLAIN_SEQ_SET, 1, 0, 0, 0, 0); t->sequence.given = 4; break;
+    case 39: set_sequence(t, PLAIN_SEQ_ERASE, 3, 0, 0, t->blocks, 0); break;
+    case 40: set_sequence(t, PLAIN_SEQ_PROGRAM, 5, 0, 0, 0, t->pages); break;
+    case 41: set_sequence(t, PLAIN_SEQ_READ, 5, 0, 0, t->blocks, 0); break;
+    case 42: set_sequence(t, PLAIN_SEQ_MOVE, 0, 0, luns, 0, 0); break;
+    default: break;
+    }
+}
+
+/* Legal neighbours of these: the largest numbers each field may hold. */
+static void legal_sequence(struct plain_target *t, const uint64_t *g, uint64_t what)
+{
+    uint64_t size = t->page_size;
+    uint64_t lun = t->luns - 1;
+    uint64_t block = ((uint64_t)1 << g[G_BLOCK_BITS]) - 1;
+    uint64_t page = ((uint64_t)1 << g[G_PAGE_BITS]) - 1;
+    switch (what) {
+    case 43: set_sequence(t, PLAIN_SEQ_PROGRAM, 5, size, lun, 0, 0); break;
+    case 44: set_sequence(t, PLAIN_SEQ_ERASE, 3, 0, lun, t->blocks - 1, page); break;
+    case 45: set_sequence(t, PLAIN_SEQ_LUN_COLUMN, 5, size - 1, lun, block, page); break;
+    case 46: set_sequence(t, PLAIN_SEQ_READ, 5, size - 1, lun, t->blocks - 1, t->pages - 1); break;
+    default: break;
+    }
+}
+
+/* Spoils of one lent length: one short. */
+static void spoil_length(uint64_t *g, uint64_t what)
+{
+    if (what == 13)
+        g[G_ARRAY_LEN] = g[G_ARRAY_LEN] - 1;
+    if (what == 14)
+        g[G_REGISTERS_LEN] = g[G_REGISTERS_LEN] - 1;
+    if (what == 15)
+        g[G_COUNTS_LEN] = g[G_COUNTS_LEN] - 1;
+    if (what == 16)
+        g[G_FLAGS_LEN] = g[G_FLAGS_LEN] - 1;
+    if (what == 17)
+        g[G_PAGE_LEN] = g[G_PAGE_LEN] - 1;
+}
+
+/* Lengths that a spoiled geometry would ask, so that only its limits refuse it. */
+static void follow_geometry(const struct plain_target *t, uint64_t *g)
+{
+    uint64_t blocks = (uint64_t)t->luns * t->blocks;
+    uint64_t pages = blocks * t->pages;
+    g[G_ARRAY_LEN] = at_most(pages * t->page_size, MAX_ARRAY);
+    g[G_REGISTERS_LEN] = at_most((uint64_t)t->luns * t->page_size, MAX_REGISTERS);
+    g[G_COUNTS_LEN] = at_most(pages, MAX_COUNTS);
+    g[G_FLAGS_LEN] = at_most(blocks, MAX_FLAGS);
+}
+
+static uint64_t fills_bits(uint64_t n)
+{
+    if ((uint64_t)1 << bits_for(n) == n)
+        return 1;
+    return 0;
+}
+
+/* Some spoils can't be written down for every part. */
 static uint64_t pick_spoil(uint64_t *g)
 {
     uint64_t what = below(g, SPOILS);
     if (g[G_FIELD + F_LUNS] == 4 && (what == 12 || what == 30))
         what = 11;
+    if ((what == 39 || what == 41) && fills_bits(g[G_FIELD + F_BLOCKS]) == 1)
+        what = 35;
+    if (what == 40 && fills_bits(g[G_FIELD + F_PAGES]) == 1)
+        what = 34;
     return what;
 }
 
-/* One event, then a trace of it and an odd byte, on a spoiled copy. */
+static uint64_t is_legal(uint64_t what)
+{
+    if (what >= 25 && what <= 29)
+        return 1;
+    if (what >= 43)
+        return 1;
+    return 0;
+}
+
+/* One event, then a trace of it and an odd byte, on a spoiled copy. A legal
+ * neighbour gets data out (43: data in), which changes no lent byte. */
 static void run_spoiled(const struct plain_target *t, uint64_t *g, uint8_t *replies,
                         const uint8_t *page, uint8_t *array, uint8_t *registers,
                         uint8_t *counts, const uint8_t *flags)
@@ -1022,28 +1115,31 @@ static void run_spoiled(const struct plain_target *t, uint64_t *g, uint8_t *repl
     struct plain_target c = *t;
     uint8_t records[3] = {3, 0, 0};
     uint64_t what = pick_spoil(g);
-    uint64_t legal = 0;
-    if (what >= 25 && what <= 29)
-        legal = 1;
+    uint64_t legal = is_legal(what);
+    uint64_t follow = below(g, 2);
+    if (what == 43)             /* data in at P */
+        records[0] = 2;
     if (legal == 0) {
         records[0] = (uint8_t)below(g, 6);
         records[1] = (uint8_t)below(g, 256);
     }
     spoil_number(&c, what);
     spoil_output(&c, what);
-    spoil_length(g, what, 0);
+    spoil_sequence(&c, what);
+    legal_sequence(&c, g, what);
+    spoil_length(g, what);
+    if (follow == 1 && what >= 1 && what <= 8)
+        follow_geometry(&c, g);
     absorb_rest(&c, g, page, registers);
-    uint64_t reply = plain_event(&c, records[0], records[1], page, g[G_PAGE_LEN],
-                                 array, g[G_ARRAY_LEN], registers, g[G_REGISTERS_LEN],
-                                 counts, g[G_COUNTS_LEN], flags, g[G_FLAGS_LEN]);
-    absorb(g, reply);
-    tally(g, records[0], reply / 256, reply % 256);
-    if ((legal == 0 && reply != 525) || (legal == 1 && reply == 525))
+    uint64_t due = g[G_REFUSED + 13] + 1 - legal;
+    run_single(&c, g, records, 0, page, array, registers, counts, flags);
+    if (g[G_REFUSED + 13] != due)
         g[G_SURPRISES] = g[G_SURPRISES] + 1;
     run_batch(&c, g, records, 0, 3, replies, page, array, registers, counts, flags);
-    spoil_length(g, what, 1);
+    measure(g);
 }
 
+/* Batches of 'step' bytes; with a step of one record, event by event. */
 static void run_trace(struct plain_target *t, uint64_t *g, const uint8_t *records,
                       uint8_t *replies, const uint8_t *page, uint8_t *array, uint8_t *registers,
                       uint8_t *counts, const uint8_t *flags)
@@ -1055,7 +1151,11 @@ static void run_trace(struct plain_target *t, uint64_t *g, const uint8_t *record
         uint64_t odd = 0;
         if (at + bytes < g[G_LEN])      /* the odd byte is the next record's first */
             odd = chance(g, g[G_KNOB + K_ODD]);
-        run_batch(t, g, records, at, bytes + odd, replies, page, array, registers, counts, flags);
+        if (step == 2)
+            run_single(t, g, records, at, page, array, registers, counts, flags);
+        else
+            run_batch(t, g, records, at, bytes + odd, replies, page, array, registers, counts,
+                      flags);
         absorb_rest(t, g, page, registers);
         if (chance(g, g[G_KNOB + K_SPOIL]) == 1)
             run_spoiled(t, g, replies, page, array, registers, counts, flags);

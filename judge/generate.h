@@ -10,7 +10,7 @@ enum {
     PARTS = 21,
     KINDS = 16,                 /* kinds of traces */
     POWER_KINDS = 4,            /* kinds of power-on cases */
-    SPOILS = 31,
+    SPOILS = 47,
     MAX_PAGE = 260,             /* room for a length of 257 */
     MAX_ARRAY = 131072,
     MAX_REGISTERS = 36864,
@@ -172,8 +172,7 @@ static const uint8_t MIX_TABLE[KINDS * MIX] = {
     0, 1, 2, 3, 4, 5, 6, 7, 8, 9, 10, 11, 12, 13, 14, 15
 };
 
-/* The commands of document 01, the first fourteen being first commands and
- * the usual seconds; FFh comes last. */
+/* The commands of document 01; FFh comes last, so that it is easily left out. */
 enum { COMMANDS = 17 };
 static const uint8_t COMMAND_TABLE[COMMANDS] = {
     0x00, 0x05, 0x06, 0x10, 0x30, 0x60, 0x70, 0x78, 0x80,
