@@ -61,9 +61,10 @@ module _ (t : Target) (e : Event) (p : Passed t e) where
 
   pub taken : eqb (e .kind) 2 ≡ true → (dataEnded (t .geometry) (t .decoder .sequence) ≡ false) × (unoffered (t .options) (t .decoder .sequence) (e .value) ≡ false)
   unfolding pastEnd notOffered
-  taken is =
-      (then-not (eqb (e .kind) 2) _ (neither (eqb (e .kind) 2 && dataEnded (t .geometry) (t .decoder .sequence)) (eqb (e .kind) 3 && outputEnded (t .geometry) (t .decoder .output)) (p .rule-8) .0) is,
-      then-not (eqb (e .kind) 2) _ (p .rule-9) is)
+  taken is = (
+    then-not (eqb (e .kind) 2) _ (neither (eqb (e .kind) 2 && dataEnded (t .geometry) (t .decoder .sequence)) (eqb (e .kind) 3 && outputEnded (t .geometry) (t .decoder .output)) (p .rule-8) .0) is,
+    then-not (eqb (e .kind) 2) _ (p .rule-9) is,
+  )
 
   pub more : eqb (e .kind) 3 ≡ true → outputEnded (t .geometry) (t .decoder .output) ≡ false
   unfolding pastEnd
