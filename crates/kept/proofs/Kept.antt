@@ -37,7 +37,7 @@ use Rattle.kept.proofs.Marks.{marks-kept}
 use Rattle.kept.proofs.Lengths.{array-length, registers-length, counts-length}
 
 -- a record with sound parts is sound
-all-sound : (t : Target) → t .powered ≡ true → inLimits (t .geometry) ≡ true → t .selected < t .geometry .luns → marksSound (t .geometry) (t .luns) ≡ true → sequenceSound (t .geometry) (t .decoder .sequence) ≡ true → outputSound (t .geometry) (t .decoder .output) ≡ true → recordSound t ≡ true
+pub all-sound : (t : Target) → t .powered ≡ true → inLimits (t .geometry) ≡ true → t .selected < t .geometry .luns → marksSound (t .geometry) (t .luns) ≡ true → sequenceSound (t .geometry) (t .decoder .sequence) ≡ true → outputSound (t .geometry) (t .decoder .output) ≡ true → recordSound t ≡ true
 unfolding recordSound
 all-sound t a b c d e f =
     let g = t .geometry in
