@@ -1,2 +1,5 @@
 pub mod Exact
 pub mod Promised
+pub mod Cases
+pub mod Useless
+pub mod Unique

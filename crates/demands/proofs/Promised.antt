@@ -361,7 +361,7 @@ module _ (page : List ℕ) (device : ℕ) (array registers counts flags : List �
   run-fit [] s h = h
   run-fit (e ∷ es) s h = run-fit es (left (stepAt page flags s e)) (step-usable (s .target) e page (s .buffers) flags h)
 
-reset-verdict : (t : Target) → verdict t reset ≡ verdicts.Accepted
+pub reset-verdict : (t : Target) → verdict t reset ≡ verdicts.Accepted
 unfolding orElse beforeReset unknown classOf offered misplaced fits othersBusy lineLow
 reset-verdict t = command-verdict t 0xff
 

@@ -1,3 +1,5 @@
 pub mod Runs
 pub mod Promises
 pub mod Exact
+pub mod Cases
+pub mod Useless
