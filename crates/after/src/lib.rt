@@ -5,6 +5,7 @@ use target::Event;
 use target::First;
 use target::Geometry;
 use target::Lun;
+use target::Luns;
 use target::Output;
 use target::Row;
 use target::Sequence;
@@ -501,7 +502,7 @@ pub fn due_fail(f: First, spoilt: bool) -> bool
 }
 
 // One LUN's record replaced, if there is such a LUN.
-pub fn with_lun(luns: [Lun; 4], l: usize, x: Lun) -> [Lun; 4]
+pub fn with_lun(luns: Luns, l: usize, x: Lun) -> Luns
     ensures { λ r. ⌜ r ≡ set luns l x ⌝ }
 {
     let mut n = luns;
@@ -511,7 +512,7 @@ pub fn with_lun(luns: [Lun; 4], l: usize, x: Lun) -> [Lun; 4]
     n
 }
 
-pub fn begun(g: Geometry, luns: [Lun; 4], r: Row, fail: bool) -> [Lun; 4]
+pub fn begun(g: Geometry, luns: Luns, r: Row, fail: bool) -> Luns
     ensures { λ n. ⌜ n ≡ begun g luns r fail ⌝ }
 {
     with_lun(
@@ -524,7 +525,7 @@ pub fn begun(g: Geometry, luns: [Lun; 4], r: Row, fail: bool) -> [Lun; 4]
     )
 }
 
-pub fn command_luns(g: Geometry, luns: [Lun; 4], s: Sequence, v: u8, spoilt: bool) -> [Lun; 4]
+pub fn command_luns(g: Geometry, luns: Luns, s: Sequence, v: u8, spoilt: bool) -> Luns
     ensures { λ r. ⌜ r ≡ commandLuns g luns s v spoilt ⌝ }
 {
     match s {
@@ -560,7 +561,7 @@ pub fn command_luns(g: Geometry, luns: [Lun; 4], s: Sequence, v: u8, spoilt: boo
     }
 }
 
-pub fn finished(luns: [Lun; 4], l: usize) -> [Lun; 4]
+pub fn finished(luns: Luns, l: usize) -> Luns
     ensures { λ r. ⌜ r ≡ finished luns l ⌝ }
 {
     let fail = failed(luns, l);
@@ -574,7 +575,7 @@ pub fn finished(luns: [Lun; 4], l: usize) -> [Lun; 4]
     )
 }
 
-pub fn luns_after(g: Geometry, luns: [Lun; 4], s: Sequence, e: Event, spoilt: bool) -> [Lun; 4]
+pub fn luns_after(g: Geometry, luns: Luns, s: Sequence, e: Event, spoilt: bool) -> Luns
     ensures { λ r. ⌜ r ≡ lunsAfter g luns s e spoilt ⌝ }
 {
     let v = e.value;

@@ -2,7 +2,7 @@
 use target::Column;
 use target::First;
 use target::Geometry;
-use target::Lun;
+use target::Luns;
 use target::Output;
 use target::Row;
 use target::Sequence;
@@ -80,13 +80,13 @@ pub fn output_sound(g: Geometry, o: Output) -> bool
     }
 }
 
-pub fn mark_sound(g: Geometry, luns: [Lun; 4], l: usize) -> bool
+pub fn mark_sound(g: Geometry, luns: Luns, l: usize) -> bool
     ensures { λ b. ⌜ b ≡ markSound g luns l ⌝ }
 {
     (l < g.luns) | (!works(luns, l) & !failed(luns, l))
 }
 
-pub fn marks_sound(g: Geometry, luns: [Lun; 4]) -> bool
+pub fn marks_sound(g: Geometry, luns: Luns) -> bool
     ensures { λ b. ⌜ b ≡ marksSound g luns ⌝ }
 {
     mark_sound(g, luns, 0)

@@ -1,7 +1,7 @@
 // The unread rest of the present output: a part of one of two lent slices, returned.
 use bench::usable::record_sound;
 use target::Geometry;
-use target::Lun;
+use target::Luns;
 use target::Output;
 use target::Target;
 use target::place::works;
@@ -55,7 +55,7 @@ pub fn readable(t: Target, params: usize, registers: usize) -> bool
     }
 }
 
-fn unread_in(g: Geometry, luns: [Lun; 4], o: Output) -> Unread
+fn unread_in(g: Geometry, luns: Luns, o: Output) -> Unread
     requires { ⌜ (inLimits g ≡ true) × (outputSound g o ≡ true) ⌝ }
     ensures { λ u. ⌜ u ≡ unreadIn g luns o ⌝ }
 {

@@ -4,7 +4,7 @@ use target::Decoder;
 use target::Event;
 use target::First;
 use target::Geometry;
-use target::Lun;
+use target::Luns;
 use target::Options;
 use target::Output;
 use target::Refusal;
@@ -177,7 +177,7 @@ pub fn is_jump(f: First) -> bool
     }
 }
 
-pub fn names_working(g: Geometry, luns: [Lun; 4], selected: usize, s: Sequence, v: u8) -> bool
+pub fn names_working(g: Geometry, luns: Luns, selected: usize, s: Sequence, v: u8) -> bool
     ensures { λ b. ⌜ b ≡ namesWorking g luns selected s v ⌝ }
 {
     match s {
@@ -208,7 +208,7 @@ pub fn names_working(g: Geometry, luns: [Lun; 4], selected: usize, s: Sequence, 
     }
 }
 
-pub fn output_works(luns: [Lun; 4], o: Output) -> bool
+pub fn output_works(luns: Luns, o: Output) -> bool
     ensures { λ b. ⌜ b ≡ outputWorks luns o ⌝ }
 {
     match o {
@@ -223,7 +223,7 @@ pub fn output_works(luns: [Lun; 4], o: Output) -> bool
 }
 
 // Rule 5.
-pub fn lun_works(g: Geometry, luns: [Lun; 4], selected: usize, d: Decoder, e: Event) -> bool
+pub fn lun_works(g: Geometry, luns: Luns, selected: usize, d: Decoder, e: Event) -> bool
     ensures { λ b. ⌜ b ≡ lunWorks g luns selected d e ⌝ }
 {
     let s = d.sequence;
@@ -233,7 +233,7 @@ pub fn lun_works(g: Geometry, luns: [Lun; 4], selected: usize, d: Decoder, e: Ev
 }
 
 // Rule 6.
-pub fn others_busy(luns: [Lun; 4], selected: usize, e: Event) -> bool
+pub fn others_busy(luns: Luns, selected: usize, e: Event) -> bool
     ensures { λ b. ⌜ b ≡ othersBusy luns selected e ⌝ }
 {
     let v = e.value;
@@ -345,7 +345,7 @@ pub fn not_offered(o: Options, s: Sequence, e: Event) -> bool
 }
 
 // Rule 10.
-pub fn not_working(g: Geometry, luns: [Lun; 4], e: Event) -> bool
+pub fn not_working(g: Geometry, luns: Luns, e: Event) -> bool
     ensures { λ b. ⌜ b ≡ notWorking g luns e ⌝ }
 {
     let l = e.value as usize;
@@ -353,7 +353,7 @@ pub fn not_working(g: Geometry, luns: [Lun; 4], e: Event) -> bool
 }
 
 // Rule 11.
-pub fn line_held(luns: [Lun; 4], s: Sequence, e: Event) -> bool
+pub fn line_held(luns: Luns, s: Sequence, e: Event) -> bool
     ensures { λ b. ⌜ b ≡ lineHeld luns s e ⌝ }
 {
     (e.kind == 5) & (any_works(luns) | is_open(s))

@@ -50,6 +50,9 @@ pub struct Lun {
     pub fail: bool,
 }
 
+// A record for each LUN that a target may have.
+pub type Luns = [Lun; 4];
+
 // The first commands; `commands::FIRSTS` is their list.
 pub enum First {
     // 00h
@@ -154,7 +157,7 @@ pub struct Target {
     // the first FFh has come
     pub seen: bool,
     pub selected: usize,
-    pub luns: [Lun; 4],
+    pub luns: Luns,
     pub decoder: Decoder,
 }
 

@@ -1,6 +1,6 @@
 // A choice by a test, for each type.
 use crate::Decoder;
-use crate::Lun;
+use crate::Luns;
 use crate::Output;
 use crate::Refusal;
 use crate::Sequence;
@@ -45,7 +45,7 @@ pub fn pick_decoder(b: bool, x: Decoder, y: Decoder) -> Decoder
     if b { x } else { y }
 }
 
-pub fn pick_luns(b: bool, x: [Lun; 4], y: [Lun; 4]) -> [Lun; 4]
+pub fn pick_luns(b: bool, x: Luns, y: Luns) -> Luns
     ensures { λ r. ⌜ r ≡ pick b x y ⌝ }
 {
     if b { x } else { y }

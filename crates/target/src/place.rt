@@ -1,5 +1,5 @@
 // The place reached: what the open sequence and the open output take next, and which LUNs work.
-use crate::Lun;
+use crate::Luns;
 use crate::Output;
 use crate::Sequence;
 use crate::commands::is_first;
@@ -161,7 +161,7 @@ pub fn has_output(o: Output) -> bool
 }
 
 // The LUN works; one that does not exist never does.
-pub fn works(luns: [Lun; 4], l: usize) -> bool
+pub fn works(luns: Luns, l: usize) -> bool
     ensures { λ b. ⌜ b ≡ works luns l ⌝ }
 {
     if l < 4 {
@@ -173,7 +173,7 @@ pub fn works(luns: [Lun; 4], l: usize) -> bool
 }
 
 // The LUN's FAIL.
-pub fn failed(luns: [Lun; 4], l: usize) -> bool
+pub fn failed(luns: Luns, l: usize) -> bool
     ensures { λ b. ⌜ b ≡ failed luns l ⌝ }
 {
     if l < 4 {
@@ -184,14 +184,14 @@ pub fn failed(luns: [Lun; 4], l: usize) -> bool
     }
 }
 
-pub fn any_works(luns: [Lun; 4]) -> bool
+pub fn any_works(luns: Luns) -> bool
     ensures { λ b. ⌜ b ≡ anyWorks luns ⌝ }
 {
     works(luns, 0) | works(luns, 1) | works(luns, 2) | works(luns, 3)
 }
 
 // A LUN other than `l` works.
-pub fn others_work(luns: [Lun; 4], l: usize) -> bool
+pub fn others_work(luns: Luns, l: usize) -> bool
     ensures { λ b. ⌜ b ≡ othersWork luns l ⌝ }
 {
     (!(l == 0) & works(luns, 0))
