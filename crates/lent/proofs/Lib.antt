@@ -1,0 +1,4 @@
+pub mod Again
+pub mod Relend
+pub mod Fold
+pub mod Alike

@@ -1,0 +1,4 @@
+pub mod Jobs
+pub mod Mixture
+pub mod Isolated
+pub mod LostPreset
