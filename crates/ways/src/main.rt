@@ -5,18 +5,281 @@ mod script;
 use lent::run_some;
 use lent::step_lent;
 use libc::STDOUT_FILENO;
-use page::crc::page_crc;
 use power::power_number;
 use power::power_on;
 use script::scripted;
 use target::Event;
 use target::Target;
-use trace::put_reply;
+use target::reply_first;
+use target::reply_second;
 use trace::run;
 use trace::run_number;
 ghost use mathlib.Core.Path.{_≡_};
 ghost use Prim.Native.Nat.{_+_, _*_, _<_, _≤_};
 ghost use lib.ListN.{length};
+
+// T1's parameter page: 512+16 bytes, 4 pages, 8 blocks, 2 LUNs, every option.
+const T1: [u8; 256] = [
+    79,
+    78,
+    70,
+    73,
+    0,
+    0,
+    2,
+    1,
+    76,
+    0,
+    0,
+    0,
+    0,
+    0,
+    0,
+    0,
+    0,
+    0,
+    0,
+    0,
+    0,
+    0,
+    0,
+    0,
+    0,
+    0,
+    0,
+    0,
+    0,
+    0,
+    0,
+    0,
+    0,
+    0,
+    0,
+    0,
+    0,
+    0,
+    0,
+    0,
+    0,
+    0,
+    0,
+    0,
+    0,
+    0,
+    0,
+    0,
+    0,
+    0,
+    0,
+    0,
+    0,
+    0,
+    0,
+    0,
+    0,
+    0,
+    0,
+    0,
+    0,
+    0,
+    0,
+    0,
+    44,
+    0,
+    0,
+    0,
+    0,
+    0,
+    0,
+    0,
+    0,
+    0,
+    0,
+    0,
+    0,
+    0,
+    0,
+    0,
+    0,
+    2,
+    0,
+    0,
+    16,
+    0,
+    0,
+    0,
+    0,
+    0,
+    0,
+    0,
+    4,
+    0,
+    0,
+    0,
+    8,
+    0,
+    0,
+    0,
+    2,
+    35,
+    0,
+    0,
+    0,
+    0,
+    0,
+    0,
+    0,
+    0,
+    4,
+    0,
+    0,
+    0,
+    0,
+    0,
+    0,
+    0,
+    0,
+    0,
+    0,
+    0,
+    0,
+    0,
+    0,
+    0,
+    0,
+    0,
+    0,
+    0,
+    0,
+    0,
+    0,
+    0,
+    0,
+    0,
+    0,
+    0,
+    0,
+    0,
+    0,
+    0,
+    0,
+    0,
+    0,
+    0,
+    0,
+    0,
+    0,
+    0,
+    0,
+    0,
+    0,
+    0,
+    0,
+    0,
+    0,
+    0,
+    0,
+    0,
+    0,
+    0,
+    0,
+    0,
+    0,
+    0,
+    0,
+    0,
+    0,
+    0,
+    0,
+    0,
+    0,
+    0,
+    0,
+    0,
+    0,
+    0,
+    0,
+    0,
+    0,
+    0,
+    0,
+    0,
+    0,
+    0,
+    0,
+    0,
+    0,
+    0,
+    0,
+    0,
+    0,
+    0,
+    0,
+    0,
+    0,
+    0,
+    0,
+    0,
+    0,
+    0,
+    0,
+    0,
+    0,
+    0,
+    0,
+    0,
+    0,
+    0,
+    0,
+    0,
+    0,
+    0,
+    0,
+    0,
+    0,
+    0,
+    0,
+    0,
+    0,
+    0,
+    0,
+    0,
+    0,
+    0,
+    0,
+    0,
+    0,
+    0,
+    0,
+    0,
+    0,
+    0,
+    0,
+    0,
+    0,
+    0,
+    0,
+    0,
+    0,
+    0,
+    0,
+    0,
+    0,
+    0,
+    0,
+    0,
+    0,
+    0,
+    0,
+    0,
+    0,
+    0,
+    207,
+    16,
+];
+
+// No bad block.
+const GOOD: [u8; 16] = [0; 16];
 
 fn put(s: &mut [u8], i: usize, v: u8) {
     if i < s.len() {
@@ -24,26 +287,10 @@ fn put(s: &mut [u8], i: usize, v: u8) {
     }
 }
 
-// T1: 512+16 bytes, 4 pages, 8 blocks, 2 LUNs, every option.
-fn lay_page(page: &mut [u8]) {
-    put(page, 0, 0x4f);
-    put(page, 1, 0x4e);
-    put(page, 2, 0x46);
-    put(page, 3, 0x49);
-    put(page, 6, 0x02);
-    put(page, 7, 0x01);
-    put(page, 8, 0x4c);
-    put(page, 64, 0x2c);
-    put(page, 81, 0x02);
-    put(page, 84, 16);
-    put(page, 92, 4);
-    put(page, 96, 8);
-    put(page, 100, 2);
-    put(page, 101, 0x23);
-    put(page, 110, 4);
-    let crc = page_crc(page);
-    put(page, 254, (crc % 256) as u8);
-    put(page, 255, (crc / 256) as u8);
+fn one(b: bool) -> usize
+    ensures { λ r. ⌜ r ≤ 1 ⌝ }
+{
+    if b { 1 } else { 0 }
 }
 
 fn drawn(x: u64) -> u64 {
@@ -85,9 +332,7 @@ fn differing(a: &[u8], b: &[u8]) -> usize {
     let mut n: usize = 0;
     let mut i: usize = 0;
     while i < a.len() {
-        if a[i] != byte(b, i) {
-            n = (n + 1) % 1000000;
-        }
+        n = (n + one(a[i] != byte(b, i))) % 1000000;
         i += 1;
     }
     n
@@ -194,9 +439,9 @@ fn single(
     let e = event_at(records, i);
     let s = step_lent(t, e, page, array, registers, counts, flags);
     let r = s.reply;
-    if i < room.len() / 2 {
-        put_reply(room, i, r);
-    }
+    let at = i % 1000000 * 2;
+    put(room, at, reply_first(r));
+    put(room, at + 1, reply_second(r));
     s.target
 }
 
@@ -230,6 +475,73 @@ fn by_events(
     last
 }
 
+// The buffers of T1, whole: their lengths are in the types.
+fn first_way(
+    t: Target,
+    records: &[u8; 49152],
+    room: &mut [u8; 49160],
+    array: &mut [u8; 33792],
+    registers: &mut [u8; 1056],
+    counts: &mut [u8; 64],
+) -> u8 {
+    let ran = run(t, records, room, &T1, array, registers, counts, &GOOD);
+    let answer = ran.answer;
+    run_number(answer)
+}
+
+fn second_way(
+    t: Target,
+    records: &[u8; 49152],
+    room: &mut [u8; 49160],
+    array: &mut [u8; 33792],
+    registers: &mut [u8; 1056],
+    counts: &mut [u8; 64],
+) {
+    by_batches(t, records, room, &T1, array, registers, counts, &GOOD);
+}
+
+fn third_way(
+    t: Target,
+    records: &[u8; 49152],
+    room: &mut [u8; 49160],
+    array: &mut [u8; 33792],
+    registers: &mut [u8; 1056],
+    counts: &mut [u8; 64],
+) {
+    by_events(t, records, room, &T1, array, registers, counts, &GOOD);
+}
+
+fn differing_rooms(a: &[u8; 49160], b: &[u8; 49160]) -> usize {
+    differing(a, b)
+}
+
+fn differing_arrays(a: &[u8; 33792], b: &[u8; 33792]) -> usize {
+    differing(a, b)
+}
+
+fn differing_registers(a: &[u8; 1056], b: &[u8; 1056]) -> usize {
+    differing(a, b)
+}
+
+fn differing_counts(a: &[u8; 64], b: &[u8; 64]) -> usize {
+    differing(a, b)
+}
+
+fn refusals_in(room: &[u8; 49160]) -> usize {
+    refusals(room)
+}
+
+fn lay_records(records: &mut [u8; 49152]) {
+    lay_trace(records)
+}
+
+fn power(array: &[u8; 33792], registers: &mut [u8; 1056], counts: &[u8; 64]) -> Target {
+    let on = power_on(&T1, 0x68, array, registers, counts, &GOOD);
+    let answer = on.answer;
+    line(b"power-on answers ", power_number(answer) as usize);
+    on.target
+}
+
 fn line(label: &[u8], n: usize) {
     io::write_all(STDOUT_FILENO, label);
     io::print_decimal(STDOUT_FILENO, n as u64);
@@ -241,97 +553,89 @@ fn refusals(room: &[u8]) -> usize {
     let mut n: usize = 0;
     let mut i: usize = 0;
     while i < room.len() {
-        if i % 2 == 0 {
-            if room[i] == 2 {
-                n = (n + 1) % 1000000;
-            }
-        }
+        n = (n + one((i % 2 == 0) & (room[i] == 2))) % 1000000;
         i += 1;
     }
     n
 }
 
 fn main() {
-    let mut page = [0u8; 256];
-    lay_page(&mut page);
-    let flags = [0u8; 16];
     let mut records = [0u8; 49152];
-    lay_trace(&mut records);
-
+    lay_records(&mut records);
     let mut array = [0xffu8; 33792];
     let mut registers = [0u8; 1056];
     let mut counts = [0u8; 64];
-    let mut replies = [0xeeu8; 49160];
-    let on = power_on(&page, 0x68, &array, &mut registers, &counts, &flags);
-    let powered = on.target;
-    let answer = on.answer;
-    line(b"power-on answers ", power_number(answer) as usize);
-
+    let mut room = [0xeeu8; 49160];
     let mut array2 = [0xffu8; 33792];
     let mut registers2 = [0xffu8; 1056];
     let mut counts2 = [0u8; 64];
-    let mut replies2 = [0xeeu8; 49160];
+    let mut room2 = [0xeeu8; 49160];
     let mut array3 = [0xffu8; 33792];
     let mut registers3 = [0xffu8; 1056];
     let mut counts3 = [0u8; 64];
-    let mut replies3 = [0xeeu8; 49160];
-
-    let ran = run(
-        powered,
+    let mut room3 = [0xeeu8; 49160];
+    let t = power(&array, &mut registers, &counts);
+    let answer = first_way(
+        t,
         &records,
-        &mut replies,
-        &page,
+        &mut room,
         &mut array,
         &mut registers,
         &mut counts,
-        &flags,
     );
-    let whole = ran.answer;
-    line(b"the byte trace answers ", run_number(whole) as usize);
-    by_batches(
-        powered,
+    line(b"the byte trace answers ", answer as usize);
+    second_way(
+        t,
         &records,
-        &mut replies2,
-        &page,
+        &mut room2,
         &mut array2,
         &mut registers2,
         &mut counts2,
-        &flags,
     );
-    by_events(
-        powered,
+    third_way(
+        t,
         &records,
-        &mut replies3,
-        &page,
+        &mut room3,
         &mut array3,
         &mut registers3,
         &mut counts3,
-        &flags,
     );
     line(b"records ", 49152 / 2);
-    line(b"refused ", refusals(&replies));
+    line(b"refused ", refusals_in(&room));
     line(
-        b"places of the array changed ",
-        differing(&array, &[0xffu8; 33792]),
+        b"array bytes changed ",
+        differing_arrays(&array, &[0xffu8; 33792]),
     );
     line(
-        b"batches: replies that differ ",
-        differing(&replies, &replies2),
+        b"batches: reply bytes that differ ",
+        differing_rooms(&room, &room2),
     );
     line(
-        b"batches: array, registers, counts that differ ",
-        differing(&array, &array2)
-            + differing(&registers, &registers2)
-            + differing(&counts, &counts2),
+        b"batches: array bytes that differ ",
+        differing_arrays(&array, &array2),
     );
     line(
-        b"one at a time: replies that differ ",
-        differing(&replies, &replies3),
+        b"batches: register bytes that differ ",
+        differing_registers(&registers, &registers2),
     );
     line(
-        b"one at a time: array, registers, counts that differ ",
-        differing(&array, &array3)
-            + differing(&registers, &registers3)
-            + differing(&counts, &counts3),
+        b"batches: counts that differ ",
+        differing_counts(&counts, &counts2),
+    );
+    line(
+        b"one at a time: reply bytes that differ ",
+        differing_rooms(&room, &room3),
+    );
+    line(
+        b"one at a time: array bytes that differ ",
+        differing_arrays(&array, &array3),
+    );
+    line(
+        b"one at a time: register bytes that differ ",
+        differing_registers(&registers, &registers3),
+    );
+    line(
+        b"one at a time: counts that differ ",
+        differing_counts(&counts, &counts3),
     );
 }

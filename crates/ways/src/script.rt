@@ -1,6 +1,4 @@
 // A stretch of trace that goes through every job and meets refusals of many kinds: kind and value of 192 records.
-ghost use Prim.Native.Nat.{_<_};
-
 const SCRIPT: [u8; 384] = [
     0,
     0,
@@ -388,8 +386,6 @@ const SCRIPT: [u8; 384] = [
     0,
 ];
 
-pub fn scripted(i: usize) -> u8
-    ensures { λ r. ⌜ r < 256 ⌝ }
-{
+pub fn scripted(i: usize) -> u8 {
     SCRIPT[i % 384]
 }

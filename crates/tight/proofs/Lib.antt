@@ -1,0 +1,10 @@
+pub mod Crc
+pub mod Part
+pub mod Ways
+pub mod Cycles
+pub mod Addresses
+pub mod Sequences
+pub mod Outputs
+pub mod Marks
+pub mod Tight
+pub mod ByItself
