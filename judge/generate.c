@@ -874,6 +874,15 @@ static void make_trace(uint64_t *g, uint8_t *records, uint64_t kind, uint64_t fr
 
 /* ---- Running ---- */
 
+/* With -t, one line for each thing that happens, and the digest after it. */
+static void show(const uint64_t *g, const char *what, uint64_t a, uint64_t b, uint64_t c,
+                 uint64_t d)
+{
+    if (g[G_SHOW] == 1)
+        printf("%" PRIu64 " %s %" PRIu64 " %" PRIu64 " %" PRIu64 " %" PRIu64 " %" PRIu64 "\n",
+               g[G_TRACE], what, a, b, c, d, g[G_H1]);
+}
+
 static void tally(uint64_t *g, uint64_t kind, uint64_t first, uint64_t second)
 {
     g[G_EVENTS] = g[G_EVENTS] + 1;
@@ -886,8 +895,14 @@ static void tally(uint64_t *g, uint64_t kind, uint64_t first, uint64_t second)
 static void tally_replies(uint64_t *g, const uint8_t *records, uint64_t at, uint64_t bytes,
                           const uint8_t *replies)
 {
-    for (uint64_t i = 0; i < bytes; i = i + 2)
+    for (uint64_t i = 0; i < bytes; i = i + 2) {
+        uint64_t value = 0;
+        if (i + 1 < bytes)
+            value = records[at + i + 1];
         tally(g, records[at + i], replies[i], replies[i + 1]);
+        show(g, "record", (at + i) / 2, records[at + i], value,
+             (uint64_t)replies[i] * 256 + replies[i + 1]);
+    }
 }
 
 static uint64_t short_room(uint64_t *g, uint64_t need)
@@ -917,6 +932,7 @@ static void run_batch(struct plain_target *t, uint64_t *g, const uint8_t *record
         absorb_bytes(g, replies, 0, need + 4);
         if (r == 16)
             g[G_REFUSED + 16] = g[G_REFUSED + 16] + 1;
+        show(g, "room", at / 2, room, r, 0);
     }
     uint64_t more = below(g, 5);
     uint64_t done = plain_trace(t, records + at, bytes, replies, need + more, page, g[G_PAGE_LEN],
@@ -937,6 +953,7 @@ static void run_single(struct plain_target *t, uint64_t *g, const uint8_t *recor
                                  counts, g[G_COUNTS_LEN], flags, g[G_FLAGS_LEN]);
     absorb(g, reply);
     tally(g, records[at], reply / 256, reply % 256);
+    show(g, "event", at / 2, records[at], records[at + 1], reply);
 }
 
 static void absorb_rest(const struct plain_target *t, uint64_t *g, const uint8_t *page,
@@ -944,8 +961,7 @@ static void absorb_rest(const struct plain_target *t, uint64_t *g, const uint8_t
 {
     size_t start = 0;
     size_t length = 0;
-    uint64_t which = plain_rest(t, g[G_PAGE_LEN], g[G_ARRAY_LEN], g[G_REGISTERS_LEN],
-                                g[G_COUNTS_LEN], g[G_FLAGS_LEN], &start, &length);
+    uint64_t which = plain_rest(t, g[G_PAGE_LEN], g[G_REGISTERS_LEN], &start, &length);
     absorb(g, which);
     absorb(g, start);
     absorb(g, length);
@@ -953,6 +969,7 @@ static void absorb_rest(const struct plain_target *t, uint64_t *g, const uint8_t
         absorb_bytes(g, registers, start, length);
     if (which == 2)
         absorb_bytes(g, page, start, length);
+    show(g, "rest", which, start, length, 0);
 }
 
 static void set_output(struct plain_target *t, uint8_t kind, uint64_t lun, uint64_t next)
@@ -1123,6 +1140,7 @@ static void run_spoiled(const struct plain_target *t, uint64_t *g, uint8_t *repl
         records[0] = (uint8_t)below(g, 6);
         records[1] = (uint8_t)below(g, 256);
     }
+    show(g, "spoil", what, follow, 0, 0);
     spoil_number(&c, what);
     spoil_output(&c, what);
     spoil_sequence(&c, what);
@@ -1209,6 +1227,7 @@ static void power_up(struct plain_target *t, uint64_t *g, uint64_t kind, uint8_t
                                 flags, g[G_FLAGS_LEN]);
     absorb(g, r);
     absorb_bytes(g, registers, 0, g[G_REGISTERS_LEN]);
+    show(g, "power", r, 0, 0, 0);
     g[G_BUSY] = 0;
     g[G_SELECTED] = 0;
     change_contents(g, kind, page, counts, flags);
@@ -1229,11 +1248,13 @@ static void run_line(uint64_t *g, uint64_t seed, uint64_t count, uint64_t part, 
         uint64_t fresh = chance(g, 3);
         if (i == 0 || kind == 9)
             fresh = 1;
+        g[G_TRACE] = i;
         if (fresh == 1)
             power_up(&t, g, kind, page, array, registers, counts, flags);
         make_trace(g, records, kind, fresh);
         run_trace(&t, g, records, replies, page, array, registers, counts, flags);
         absorb_buffers(g, array, registers, counts, flags);
+        show(g, "buffers", 0, 0, 0, 0);
     }
 }
 
@@ -1310,6 +1331,7 @@ static void power_case(struct plain_target *t, uint64_t *g, uint8_t *records, ui
     absorb(g, r);
     g[G_REFUSED + r] = g[G_REFUSED + r] + 1;
     absorb_buffers(g, array, registers, counts, flags);
+    show(g, "power", r, 0, 0, 0);
     g[G_LEN] = 0;
     put_reset(g, records);
     if (r == 0)
@@ -1319,6 +1341,8 @@ static void power_case(struct plain_target *t, uint64_t *g, uint8_t *records, ui
         put_bad(g, records);
     run_trace(t, g, records, replies, page, array, registers, counts, flags);
     absorb_buffers(g, array, registers, counts, flags);
+    show(g, "buffers", 0, 0, 0, 0);
+    g[G_TRACE] = g[G_TRACE] + 1;
 }
 
 /* A small part with the damages 'one' and 'two', each 20 to 25 or 0 for none. */
@@ -1456,18 +1480,31 @@ static void print_totals(const uint64_t *total)
     printf("\nspoiled events with another reply than due: %" PRIu64 "\n", total[G_SURPRISES]);
 }
 
-/* generate [-x ERROR] [SEED [COUNT]] */
+/* generate [-x ERROR] [-t PART KIND] [SEED [COUNT]]
+ * With -t that line alone, and before it what happens: the trace's number, then
+ *   power ANSWER 0 0 0          a power-on
+ *   record PLACE KIND VALUE REPLY   a record of a batch
+ *   event PLACE KIND VALUE REPLY    one event
+ *   room PLACE ROOM ANSWER 0    a batch with too little room
+ *   rest WHICH START LENGTH 0   the unread rest
+ *   spoil WHAT FOLLOW 0 0       what follows is on a spoiled copy
+ *   buffers 0 0 0 0             the end of the trace
+ * and last the first digest. A reply is its first byte times 256 plus the second. */
 int main(int argc, char **argv)
 {
     static uint8_t records[TRACE_BYTES], replies[REPLY_BYTES], page[MAX_PAGE], array[MAX_ARRAY],
         registers[MAX_REGISTERS], counts[MAX_COUNTS], flags[MAX_FLAGS];
     uint64_t total[G_NUMBERS] = {0};
-    uint64_t seed = 1, count = 1, error = 0;
+    uint64_t seed = 1, count = 1, error = 0, only = LINES;
     int at = 1;
 
     if (at + 1 < argc && strcmp(argv[at], "-x") == 0) {
         error = strtoull(argv[at + 1], NULL, 10);
         at += 2;
+    }
+    if (at + 2 < argc && strcmp(argv[at], "-t") == 0) {
+        only = strtoull(argv[at + 1], NULL, 10) * KINDS + strtoull(argv[at + 2], NULL, 10);
+        at += 3;
     }
     if (at < argc)
         seed = strtoull(argv[at++], NULL, 10);
@@ -1482,23 +1519,27 @@ int main(int argc, char **argv)
     }
 #endif
 
-    printf("# part kind events digest digest  refused 1-13 16  accepted 0-5"
-           "  (part %d: power-on 0 20-25)\n", PARTS);
-    for (uint64_t part = 0; part < PARTS; part++)
-        for (uint64_t kind = 0; kind < KINDS; kind++) {
-            uint64_t g[G_NUMBERS] = {0};
+    if (only == LINES)
+        printf("# part kind events digest digest  refused 1-13 16  accepted 0-5"
+               "  (part %d: power-on 0 20-25)\n", PARTS);
+    for (uint64_t line = 0; line < LINES; line++) {
+        uint64_t g[G_NUMBERS] = {0};
+        uint64_t part = line / KINDS, kind = line % KINDS;
+        if (only != LINES && only != line)
+            continue;
+        if (only == line)
+            g[G_SHOW] = 1;
+        if (part < PARTS)
             run_line(g, seed, count, part, kind, records, replies, page, array, registers,
                      counts, flags);
-            print_line(g, part, kind);
-            add_up(total, g);
-        }
-    for (uint64_t kind = 0; kind < POWER_KINDS; kind++) {
-        uint64_t g[G_NUMBERS] = {0};
-        run_power_line(g, seed, count, kind, records, replies, page, array, registers, counts,
-                       flags);
-        print_line(g, PARTS, kind);
+        else
+            run_power_line(g, seed, count, kind, records, replies, page, array, registers,
+                           counts, flags);
+        print_line(g, part, kind);
         add_up(total, g);
     }
+    if (only != LINES)
+        return 0;
     print_totals(total);
     return error == 0 && !enough(total);
 }

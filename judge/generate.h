@@ -10,6 +10,7 @@ enum {
     PARTS = 21,
     KINDS = 16,                 /* kinds of traces */
     POWER_KINDS = 4,            /* kinds of power-on cases */
+    LINES = PARTS * KINDS + POWER_KINDS,
     SPOILS = 47,
     MAX_PAGE = 260,             /* room for a length of 257 */
     MAX_ARRAY = 131072,
@@ -79,6 +80,8 @@ enum {
     G_REGISTERS_LEN,
     G_COUNTS_LEN,
     G_FLAGS_LEN,
+    G_SHOW,                     /* 1: what happens is printed, see -t */
+    G_TRACE,                    /* the trace's number in its line */
     G_FIELD,                    /* the part's fields */
     G_KNOB = G_FIELD + FIELDS,
     G_REFUSED = G_KNOB + KNOBS, /* how often each refusal number was met; 0 accepted */

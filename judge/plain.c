@@ -164,10 +164,15 @@ static bool output_usable(const struct plain_target *t)
     }
 }
 
+static bool record_usable(const struct plain_target *t)
+{
+    return t->powered && geometry_usable(t)
+        && luns_usable(t) && sequence_usable(t) && output_usable(t);
+}
+
 static bool usable(const struct plain_target *t, const struct lent *b)
 {
-    return t->powered && geometry_usable(t) && lengths_fit(t, b)
-        && luns_usable(t) && sequence_usable(t) && output_usable(t);
+    return record_usable(t) && lengths_fit(t, b);
 }
 
 /* ---- Places in the lent buffers ---- */
@@ -776,19 +781,17 @@ uint32_t plain_trace(struct plain_target *t, const uint8_t *records, size_t n,
     return 0;
 }
 
-uint32_t plain_rest(const struct plain_target *t, size_t page_len,
-                    size_t array_len, size_t registers_len,
-                    size_t counts_len, size_t flags_len,
+uint32_t plain_rest(const struct plain_target *t, size_t page_len, size_t registers_len,
                     size_t *start, size_t *length)
 {
-    struct lent lens = {.page_len = page_len, .array_len = array_len,
-                        .registers_len = registers_len,
-                        .counts_len = counts_len, .flags_len = flags_len};
     const struct plain_output *o = &t->output;
 
     *start = 0;
     *length = 0;
-    if (!usable(t, &lens) || t->sequence.kind != PLAIN_SEQ_NONE)
+    if (!record_usable(t) || page_len != PLAIN_PAGE_BYTES
+        || registers_len != (uint64_t)t->luns * t->page_size)
+        return 0;
+    if (t->sequence.kind != PLAIN_SEQ_NONE)
         return 0;
     if (o->kind == PLAIN_OUT_REGISTER && !t->lun[o->lun].working && o->next < t->page_size) {
         *start = (size_t)o->lun * t->page_size + o->next;

@@ -111,10 +111,9 @@ uint32_t plain_trace(struct plain_target *t, const uint8_t *records, size_t n,
                      const uint8_t *flags, size_t flags_len);
 
 /* The unread rest: 1 a part of the registers, 2 of the parameter page,
- * 0 an empty part, always with start and length 0. */
-uint32_t plain_rest(const struct plain_target *t, size_t page_len,
-                    size_t array_len, size_t registers_len,
-                    size_t counts_len, size_t flags_len,
+ * 0 an empty part, always with start and length 0. It is asked with these two
+ * buffers lent, so [13] looks at the record and at these two lengths. */
+uint32_t plain_rest(const struct plain_target *t, size_t page_len, size_t registers_len,
                     size_t *start, size_t *length);
 
 #ifdef PLAIN_ERRORS

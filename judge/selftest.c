@@ -154,8 +154,7 @@ static void run(struct bench *b, const char *records, const char *replies, const
 static void rest(struct bench *b, uint32_t which, size_t start, size_t length, const char *what)
 {
     size_t s, l;
-    uint32_t w = plain_rest(&b->t, 256, b->array_len, b->registers_len, b->counts_len,
-                            b->flags_len, &s, &l);
+    uint32_t w = plain_rest(&b->t, 256, b->registers_len, &s, &l);
     check(w == which && s == start && l == length, what);
 }
 

@@ -1,0 +1,98 @@
+// Random numbers and digests.
+use crate::numbers::State;
+use crate::numbers::add;
+use crate::numbers::byte;
+use crate::numbers::count;
+use crate::numbers::get;
+use crate::numbers::number;
+use crate::place;
+
+// xorshift64; the next number, below `n`.
+pub fn below(g: &mut State, n: usize) -> usize {
+    let x = g[place::RNG];
+    let a = x ^ (x << 13);
+    let b = a ^ (a >> 7);
+    let c = b ^ (b << 17);
+    g[place::RNG] = c;
+    if n == 0 { 0 } else { (c >> 20) % n }
+}
+
+pub fn chance(g: &mut State, n: usize) -> bool {
+    if n == 0 {
+        return false;
+    }
+    below(g, n) == 0
+}
+
+// One in as many as the knob says.
+pub fn sometimes(g: &mut State, knob: usize) -> bool {
+    let n = number(g, knob);
+    chance(g, n)
+}
+
+// One in two.
+pub fn half(g: &mut State) -> bool {
+    below(g, 2) == 1
+}
+
+pub fn seed_line(g: &mut State, seed: usize, line: usize) {
+    g[place::RNG] = 88172645463325252 ^ (seed % 4294967296) ^ (add(line, 1) << 40);
+    let mut i: usize = 0;
+    while i < 16 {
+        below(g, 2);
+        i += 1;
+    }
+}
+
+pub fn mixed_1(h: usize, n: usize) -> usize {
+    ((h % 4294967291) * 1000003 + n % 4294967296 + 1) % 4294967291
+}
+
+pub fn mixed_2(h: usize, n: usize) -> usize {
+    ((h % 4294967279) * 16777619 + n % 4294967296 + 1) % 4294967279
+}
+
+pub fn absorb(g: &mut State, n: usize) {
+    g[place::H1] = mixed_1(g[place::H1], n);
+    g[place::H2] = mixed_2(g[place::H2], n);
+}
+
+pub fn absorb_bytes(g: &mut State, from: &[u8]) {
+    let mut i: usize = 0;
+    while i < from.len() {
+        absorb(g, get(from, i));
+        i += 1;
+    }
+}
+
+// The first `n` bytes.
+pub fn absorb_front(g: &mut State, from: &[u8], n: usize) {
+    let m = count(n, from);
+    absorb_bytes(g, &from[..m]);
+}
+
+fn fill_bytes(g: &mut State, to: &mut [u8]) {
+    let mut i: usize = 0;
+    while i < to.len() {
+        to[i] = byte(below(g, 256));
+        i += 1;
+    }
+}
+
+pub fn fill_random(g: &mut State, to: &mut [u8], n: usize) {
+    let m = count(n, to);
+    fill_bytes(g, &mut to[..m]);
+}
+
+fn fill_all(to: &mut [u8], value: u8) {
+    let mut i: usize = 0;
+    while i < to.len() {
+        to[i] = value;
+        i += 1;
+    }
+}
+
+pub fn fill_with(to: &mut [u8], n: usize, value: u8) {
+    let m = count(n, to);
+    fill_all(&mut to[..m], value);
+}
