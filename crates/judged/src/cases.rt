@@ -36,20 +36,122 @@ use power::power_number;
 
 // Limits at power-on: field, value.
 const LIMITS: [usize; 116] = [
-    field::DATA, 0, field::DATA, 15, field::DATA, 16, field::DATA, 17,
-    field::DATA, 16383, field::DATA, 16384, field::DATA, 16385, field::DATA, 65552, field::DATA, 16777232,
-    field::SPARE, 0, field::SPARE, 1, field::SPARE, 2047, field::SPARE, 2048, field::SPARE, 2049, field::SPARE, 65535,
-    field::PAGES, 0, field::PAGES, 1, field::PAGES, 2, field::PAGES, 255, field::PAGES, 256, field::PAGES, 257,
-    field::PAGES, 65537, field::PAGES, 16777217,
-    field::BLOCKS, 0, field::BLOCKS, 1, field::BLOCKS, 2, field::BLOCKS, 4095, field::BLOCKS, 4096, field::BLOCKS, 4097,
-    field::BLOCKS, 65537, field::BLOCKS, 16777217,
-    field::LUNS, 0, field::LUNS, 1, field::LUNS, 2, field::LUNS, 3, field::LUNS, 4, field::LUNS, 5, field::LUNS, 255,
-    field::PROGRAMS, 0, field::PROGRAMS, 1, field::PROGRAMS, 2, field::PROGRAMS, 7, field::PROGRAMS, 8,
-    field::PROGRAMS, 9, field::PROGRAMS, 255,
-    field::CYCLES, 0, field::CYCLES, 34, field::CYCLES, 35, field::CYCLES, 36, field::CYCLES, 51, field::CYCLES, 19,
-    field::CYCLES, 163,
-    field::WIDE, 0, field::WIDE, 1, field::MANY, 0, field::MANY, 1,
-    field::OPTIONS, 0, field::OPTIONS, 15,
+    field::DATA,
+    0,
+    field::DATA,
+    15,
+    field::DATA,
+    16,
+    field::DATA,
+    17,
+    field::DATA,
+    16383,
+    field::DATA,
+    16384,
+    field::DATA,
+    16385,
+    field::DATA,
+    65552,
+    field::DATA,
+    16777232,
+    field::SPARE,
+    0,
+    field::SPARE,
+    1,
+    field::SPARE,
+    2047,
+    field::SPARE,
+    2048,
+    field::SPARE,
+    2049,
+    field::SPARE,
+    65535,
+    field::PAGES,
+    0,
+    field::PAGES,
+    1,
+    field::PAGES,
+    2,
+    field::PAGES,
+    255,
+    field::PAGES,
+    256,
+    field::PAGES,
+    257,
+    field::PAGES,
+    65537,
+    field::PAGES,
+    16777217,
+    field::BLOCKS,
+    0,
+    field::BLOCKS,
+    1,
+    field::BLOCKS,
+    2,
+    field::BLOCKS,
+    4095,
+    field::BLOCKS,
+    4096,
+    field::BLOCKS,
+    4097,
+    field::BLOCKS,
+    65537,
+    field::BLOCKS,
+    16777217,
+    field::LUNS,
+    0,
+    field::LUNS,
+    1,
+    field::LUNS,
+    2,
+    field::LUNS,
+    3,
+    field::LUNS,
+    4,
+    field::LUNS,
+    5,
+    field::LUNS,
+    255,
+    field::PROGRAMS,
+    0,
+    field::PROGRAMS,
+    1,
+    field::PROGRAMS,
+    2,
+    field::PROGRAMS,
+    7,
+    field::PROGRAMS,
+    8,
+    field::PROGRAMS,
+    9,
+    field::PROGRAMS,
+    255,
+    field::CYCLES,
+    0,
+    field::CYCLES,
+    34,
+    field::CYCLES,
+    35,
+    field::CYCLES,
+    36,
+    field::CYCLES,
+    51,
+    field::CYCLES,
+    19,
+    field::CYCLES,
+    163,
+    field::WIDE,
+    0,
+    field::WIDE,
+    1,
+    field::MANY,
+    0,
+    field::MANY,
+    1,
+    field::OPTIONS,
+    0,
+    field::OPTIONS,
+    15,
 ];
 
 fn limit(i: usize) -> usize {
@@ -210,9 +312,7 @@ fn damaged_case(
     if (one == 20) | (two == 20) {
         bad_page_length(g);
     }
-    power_case(
-        g, records, replies, page, array, registers, counts, flags,
-    );
+    power_case(g, records, replies, page, array, registers, counts, flags);
 }
 
 // The smallest part with one field at a limit or past it.
@@ -235,9 +335,7 @@ fn limit_case(
     g[field::COUNTS] = 0;
     fill_buffers(g, array, registers, counts, flags);
     make_page(g, page);
-    power_case(
-        g, records, replies, page, array, registers, counts, flags,
-    );
+    power_case(g, records, replies, page, array, registers, counts, flags);
 }
 
 // One byte of a good page changed, the CRC mended.
@@ -260,9 +358,7 @@ fn byte_case(
     if at < 254 {
         mend_crc(page);
     }
-    power_case(
-        g, records, replies, page, array, registers, counts, flags,
-    );
+    power_case(g, records, replies, page, array, registers, counts, flags);
 }
 
 // Case number 'i' of a kind: single damages, pairs of damages, limits, bytes.

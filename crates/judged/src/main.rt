@@ -25,8 +25,8 @@ use numbers::Registers;
 use numbers::State;
 use numbers::add;
 use numbers::get;
-use numbers::number;
 use numbers::keep;
+use numbers::number;
 use numbers::times;
 use random::mixed_1;
 use random::mixed_2;
@@ -96,11 +96,31 @@ fn one_line(
     g[place::SHOW] = shown;
     if line < 336 {
         run_line(
-            &mut g, seed, count, line, records, replies, page, array, registers, counts, flags,
+            &mut g,
+            seed,
+            count,
+            line,
+            records,
+            replies,
+            page,
+            array,
+            registers,
+            counts,
+            flags,
         );
     } else {
         run_power_line(
-            &mut g, seed, count, line, records, replies, page, array, registers, counts, flags,
+            &mut g,
+            seed,
+            count,
+            line,
+            records,
+            replies,
+            page,
+            array,
+            registers,
+            counts,
+            flags,
         );
     }
     print_line(&g, line / 16, line % 16);

@@ -1,7 +1,10 @@
 // Places in the generator's state.
 pub const RNG: usize = 0;
+
 pub const H1: usize = 1;
+
 pub const H2: usize = 2;
+
 pub const EVENTS: usize = 3;
 // spoiled events not answered 13
 pub const SURPRISES: usize = 4;
@@ -11,16 +14,23 @@ pub const LEN: usize = 5;
 pub const BUSY: usize = 6;
 // the LUN that it takes to be selected
 pub const SELECTED: usize = 7;
+
 pub const DEVICE: usize = 8;
 // page size P
 pub const SIZE: usize = 9;
+
 pub const PAGE_BITS: usize = 10;
+
 pub const BLOCK_BITS: usize = 11;
 // lengths to lend
 pub const PAGE_LEN: usize = 12;
+
 pub const ARRAY_LEN: usize = 13;
+
 pub const REGISTERS_LEN: usize = 14;
+
 pub const COUNTS_LEN: usize = 15;
+
 pub const FLAGS_LEN: usize = 16;
 // 1: what happens is printed
 pub const SHOW: usize = 17;
@@ -30,4 +40,5 @@ pub const TRACE: usize = 18;
 pub const REFUSED: usize = 48;
 // accepted events by kind
 pub const ACCEPTED: usize = 74;
+
 pub const NUMBERS: usize = 80;

@@ -135,18 +135,14 @@ fn tally(g: &mut State, kind: usize, reply: usize) {
 }
 
 // The reply to record number `i` of a batch of `bytes` bytes from `at` on.
-fn tally_reply(
-    g: &mut State,
-    records: &[u8],
-    at: usize,
-    bytes: usize,
-    replies: &Bytes,
-    i: usize,
-) {
+fn tally_reply(g: &mut State, records: &[u8], at: usize, bytes: usize, replies: &Bytes, i: usize) {
     let from = times(i, 2);
     let here = add(at, from);
     let kind = get(records, here);
-    let reply = add(times(fetch(replies, from), 256), fetch(replies, add(from, 1)));
+    let reply = add(
+        times(fetch(replies, from), 256),
+        fetch(replies, add(from, 1)),
+    );
     tally(g, kind, reply);
     if add(from, 1) < bytes {
         let value = get(records, add(here, 1));
@@ -325,11 +321,7 @@ fn spoiled_kind(g: &mut State, what: usize) -> usize {
 }
 
 fn spoiled_value(g: &mut State, what: usize) -> usize {
-    if is_legal(what) {
-        0
-    } else {
-        below(g, 256)
-    }
+    if is_legal(what) { 0 } else { below(g, 256) }
 }
 
 // One event, then a trace of it and an odd byte, on a spoiled copy.
@@ -356,17 +348,7 @@ fn run_spoiled(
     }
     absorb_rest(c, g, page, registers);
     let due = if is_legal(what) { g[61] } else { add(g[61], 1) };
-    let c = run_single(
-        c,
-        g,
-        &records,
-        0,
-        page,
-        array,
-        registers,
-        counts,
-        flags,
-    );
+    let c = run_single(c, g, &records, 0, page, array, registers, counts, flags);
     if !(g[61] == due) {
         one_more(g, place::SURPRISES);
     }
@@ -479,13 +461,7 @@ fn batches(len: usize, step: usize) -> usize {
     }
 }
 
-pub fn absorb_buffers(
-    g: &mut State,
-    array: &[u8],
-    registers: &[u8],
-    counts: &[u8],
-    flags: &[u8],
-) {
+pub fn absorb_buffers(g: &mut State, array: &[u8], registers: &[u8], counts: &[u8], flags: &[u8]) {
     let n = g[place::ARRAY_LEN];
     absorb_front(g, array, n);
     let n = g[place::REGISTERS_LEN];

@@ -48,7 +48,9 @@ fn powered(g: &State) {
 }
 
 pub fn print_heading() {
-    text(b"# part kind events digest digest  refused 1-13 16  accepted 0-5  (part 21: power-on 0 20-25)\n");
+    text(
+        b"# part kind events digest digest  refused 1-13 16  accepted 0-5  (part 21: power-on 0 20-25)\n",
+    );
 }
 
 pub fn print_line(g: &State, part: usize, kind: usize) {

@@ -40,8 +40,14 @@ fn spoil_number(t: Target, what: usize) -> Target {
     let g = t.geometry;
     let luns = t.luns;
     match what {
-        0 => Target { powered: false, ..t },
-        11 => Target { selected: g.luns, ..t },
+        0 => Target {
+            powered: false,
+            ..t
+        },
+        11 => Target {
+            selected: g.luns,
+            ..t
+        },
         12 => {
             let mut n = t;
             let l = luns[3];
@@ -65,14 +71,23 @@ fn spoil_number(t: Target, what: usize) -> Target {
 fn spoil_output(g: Geometry, what: usize) -> Output {
     let end = g.page;
     match what {
-        18 => Output::Register { lun: 0, column: Column(add(end, 1)) },
-        19 => Output::Register { lun: g.luns, column: Column(0) },
+        18 => Output::Register {
+            lun: 0,
+            column: Column(add(end, 1)),
+        },
+        19 => Output::Register {
+            lun: g.luns,
+            column: Column(0),
+        },
         20 => Output::Status { lun: g.luns },
         21 => Output::Parameters { at: 769 },
         22 => Output::Ids { at: 3 },
         23 => Output::Signature { at: 5 },
         24 => Output::Feature { at: 5 },
-        25 => Output::Register { lun: 0, column: Column(end) },
+        25 => Output::Register {
+            lun: 0,
+            column: Column(end),
+        },
         26 => Output::Parameters { at: 768 },
         27 => Output::Ids { at: 2 },
         28 => Output::Signature { at: 4 },
@@ -82,11 +97,18 @@ fn spoil_output(g: Geometry, what: usize) -> Output {
 
 // A sequence whose addresses have all come: its second command is due, or it takes data.
 fn due(first: First, column: usize, row: usize) -> Sequence {
-    Sequence::Due { first, column: Column(column), row: Row(row) }
+    Sequence::Due {
+        first,
+        column: Column(column),
+        row: Row(row),
+    }
 }
 
 fn filling(row: usize, at: usize) -> Sequence {
-    Sequence::Filling { row: Row(row), at: Column(at) }
+    Sequence::Filling {
+        row: Row(row),
+        at: Column(at),
+    }
 }
 
 // Spoils of the sequence.
@@ -104,7 +126,11 @@ fn spoil_sequence(p: Geometry, g: &State, what: usize) -> Sequence {
         39 => due(First::Erase, 0, row_of(g, 0, p.blocks, 0)),
         40 => filling(row_of(g, 0, 0, p.pages), 0),
         41 => due(First::Read, 0, row_of(g, 0, p.blocks, 0)),
-        _ => Sequence::Moving { row: Row(past), got: 0, low: 0 },
+        _ => Sequence::Moving {
+            row: Row(past),
+            got: 0,
+            low: 0,
+        },
     }
 }
 
@@ -124,12 +150,18 @@ fn legal_sequence(p: Geometry, g: &State, what: usize) -> Sequence {
 }
 
 fn with_output(t: Target, output: Output) -> Target {
-    let decoder = Decoder { sequence: Sequence::Idle, output };
+    let decoder = Decoder {
+        sequence: Sequence::Idle,
+        output,
+    };
     Target { decoder, ..t }
 }
 
 fn with_sequence(t: Target, sequence: Sequence) -> Target {
-    let decoder = Decoder { sequence, output: Output::Nothing };
+    let decoder = Decoder {
+        sequence,
+        output: Output::Nothing,
+    };
     Target { decoder, ..t }
 }
 
