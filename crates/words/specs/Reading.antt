@@ -125,8 +125,8 @@ ended r b = record {
     word = noWord;
   };
   said =
-    pick (endsLine b && wordDue (r .due) (r .word)) (said.Wrong wrong.NoValue)
-    (wordSaid (r .kind) (r .due) (r .word));
+      pick (endsLine b && wordDue (r .due) (r .word)) (said.Wrong wrong.NoValue)
+      (wordSaid (r .kind) (r .due) (r .word));
 }
 
 -- a comment goes to the line end

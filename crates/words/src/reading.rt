@@ -130,11 +130,7 @@ pub fn more(n: u8) -> u8
 pub fn tenfold(n: usize, d: u8) -> usize
     ensures { λ r. ⌜ r ≡ tenfold n d ⌝ }
 {
-    if n < 100000 {
-        n * 10 + d as usize
-    } else {
-        n
-    }
+    if n < 100000 { n * 10 + d as usize } else { n }
 }
 
 pub fn no_word() -> Word
@@ -193,10 +189,7 @@ pub fn is_count(w: Word) -> bool
 pub fn byte_said(kind: u8, w: Word) -> Said
     ensures { λ r. ⌜ r ≡ byteSaid kind w ⌝ }
 {
-    let record = Said::Record {
-        kind,
-        value: w.hex,
-    };
+    let record = Said::Record { kind, value: w.hex };
     pick_said(is_byte(w), record, Said::Wrong(Wrong::NotByte))
 }
 
@@ -216,7 +209,11 @@ pub fn number_said(kind: u8, w: Word) -> Said
 pub fn count_said(w: Word) -> Said
     ensures { λ r. ⌜ r ≡ countSaid w ⌝ }
 {
-    pick_said(is_count(w), Said::Outs(w.number), Said::Wrong(Wrong::NotNumber))
+    pick_said(
+        is_count(w),
+        Said::Outs(w.number),
+        Said::Wrong(Wrong::NotNumber),
+    )
 }
 
 pub fn raw_said(w: Word) -> Said
@@ -271,7 +268,11 @@ pub fn ended(r: Reading, b: u8) -> Read
     let ends = ends_line(b);
     let due = word_due(r.due, w);
     let kind = pick_kind(ends, Kind::Nothing, word_kind(k, w));
-    let said = pick_said(ends & due, Said::Wrong(Wrong::NoValue), word_said(k, r.due, w));
+    let said = pick_said(
+        ends & due,
+        Said::Wrong(Wrong::NoValue),
+        word_said(k, r.due, w),
+    );
     let word = no_word();
     let reading = Reading {
         comment: b == b'#',

@@ -30,8 +30,10 @@ cast-t5 c =
 returns : tie.Need-returns
 unfolding numberSaid
 returns c = rw (sym (c .before .before .is-number .ensures) ∙ c .before .if1 .taken)
+
 returns-2 : tie.Need-returns-2
 unfolding numberSaid
 returns-2 c = rw (sym (c .before .is-number .ensures) ∙ c .if1 .left)
+
 pub number-said-spec : {M : Type 1} → statement M
 number-said-spec = tie.close (tie.spec is-number-requires cast-t5 returns returns-2)
