@@ -347,7 +347,7 @@ powered-sound page device h =
     all-sound _ refl fine (m .luns-min) (rw (or-true (ltb 0 (g .luns)), or-true (ltb 1 (g .luns)), or-true (ltb 2 (g .luns)), or-true (ltb 3 (g .luns)))) refl refl
 
 module _ (page : List ℕ) (device : ℕ) (array registers counts flags : List ℕ) (on : powerAnswer page (length array) (length registers) counts flags ≡ power.Accepted) where
-  powered-fit : Fit (poweredUp page device array registers counts .target) page (poweredUp page device array registers counts .buffers) flags
+  pub powered-fit : Fit (poweredUp page device array registers counts .target) page (poweredUp page device array registers counts .buffers) flags
   unfolding usable wrongLength bufferBad poweredOf
   powered-fit =
       let p = all-power-passed page (length array) (length registers) counts flags on in
@@ -356,7 +356,7 @@ module _ (page : List ℕ) (device : ℕ) (array registers counts flags : List �
       and-true (recordSound (poweredOf page device)) _ (powered-sound page device (accepted-limited page (length array) (length registers) counts flags on))
       (and-true (eqb (length page) 256) _ long (rw (length-replicate) fits))
 
-  run-fit : (es : List Event) (s : State) → Fit (s .target) page (s .buffers) flags → Fit (after page flags es s .target) page (after page flags es s .buffers) flags
+  pub run-fit : (es : List Event) (s : State) → Fit (s .target) page (s .buffers) flags → Fit (after page flags es s .target) page (after page flags es s .buffers) flags
   unfolding after
   run-fit [] s h = h
   run-fit (e ∷ es) s h = run-fit es (left (stepAt page flags s e)) (step-usable (s .target) e page (s .buffers) flags h)

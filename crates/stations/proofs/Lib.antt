@@ -16,3 +16,4 @@ pub mod Steps
 pub mod Laws
 pub mod Isolation
 pub mod LostPreset
+pub mod Reached

@@ -2,3 +2,4 @@ pub mod Jobs
 pub mod Mixture
 pub mod Isolated
 pub mod LostPreset
+pub mod Reached
