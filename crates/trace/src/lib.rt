@@ -1,7 +1,11 @@
 // Byte traces: two-byte records in, two-byte replies out, over the proved step.
+pub mod bursts;
+
 use bench::Stepped;
 use bench::steady;
 use bench::usable::usable;
+use bursts::burst;
+use bursts::may_burst;
 use target::Event;
 use target::Refusal;
 use target::Reply;
@@ -142,6 +146,22 @@ fn run_records(
             flags,
         );
         i += 1;
+        if may_burst(records, i) {
+            let b = burst(
+                ok,
+                at,
+                i,
+                records,
+                room,
+                params,
+                array,
+                registers,
+                counts,
+                flags,
+            );
+            at = b.target;
+            i += b.count;
+        }
     }
     at
 }

@@ -1,0 +1,259 @@
+-- Many data cycles in a row: one accepted data cycle, and by it any number of them.
+--     in-step, out-step     one data-in cycle of a program, one data-out cycle of a register: what a step makes of them
+--     in-run, out-run       the rest of the trace after k of them gives what it gave before them
+-- Assumes nothing.
+use mathlib.Core.Path.{_≡_, refl, sym, ap, subst, _∙_}
+use mathlib.Core.Bool.{Bool, true, false, _&&_, _||_}
+use mathlib.Core.List.{List}
+use Prim.Native.Nat.{ℕ, zero, suc, _+_, _*_, _/_, _≤_, _<_, min}
+use native.Mathlib.Nat.{min-le-left, min-le-right}
+use native.Mathlib.Omega.{arith}
+use native.Mathlib.Numerals.{add-one}
+use lib.ListN.{length, getD, set, drop}
+use lib.Dec.{eqb, leb, ltb}
+use borrow.Author.Tests.{ltb-true, lt-leb, eqb-true, eqb-false}
+use Rattle.cells.specs.Cells.{part, splice}
+use Rattle.cells.proofs.Splice.{piece}
+use Rattle.target.proofs.Both.{both}
+use Rattle.target.proofs.Limits.{limits, registers-all}
+use Rattle.target.specs.Pick.{orElse}
+use Rattle.target.specs.Address.{lunOf}
+use Rattle.target.specs.Place.{works}
+use Rattle.target.specs.Events.{badRecord}
+use Rattle.target.specs.declared.Row.{Row}
+use Rattle.target.specs.declared.Column.{Column}
+use Rattle.target.specs.declared.Event.{Event}
+use Rattle.target.specs.declared.Target.{Target}
+use Rattle.target.specs.declared.Sequence.the-variants.{Filling}
+use Rattle.target.specs.declared.Output.the-variants as output
+use Rattle.target.specs.declared.Reply.the-variants as reply
+use Rattle.target.specs.declared.Verdict.the-variants.{Accepted}
+use Rattle.target.specs.declared.Work.the-variants as work
+use Rattle.rules.specs.Rules.{beforeReset, misplaced, fits, notOffered, lunWorks, pastEnd, verdict}
+use Rattle.rules.proofs.ByKind.{event, in-verdict, out-verdict}
+use Rattle.after.specs.After.{highAfter, clearAfter, selectedAfter, lunsAfter, sequenceAfter, outputAfter, targetAfter, workOf}
+use Rattle.bench.specs.Usable.{usable, sequenceSound, outputSound}
+use Rattle.bench.specs.Buffers.{registersAfter, arrayAfter, countsAfter, outputByte, spoiltBy}
+use Rattle.bench.specs.Step.{Buffers, Outcome, replyOf, worked, acceptedBy, accepted, byVerdict, steady, stepOf}
+use Rattle.bench.proofs.Sound.{sound, filling-place, filling-row, register-place, passes}
+use Rattle.bench.proofs.Places.{row-lun}
+use Rattle.kept.proofs.Kept.{step-steady}
+use Rattle.trace.specs.Run.{Running, written, oneMore, ranAll, eventsOf, standsUsable}
+use Rattle.trace.specs.Data.{isData, AllData, filling, giving, Taking, tookOne, takenIn, givenOut, standing, Carried}
+use Rattle.trace.proofs.Turns.{eventAt, turned, stands-kept}
+
+-- the verdict on a data-in cycle of a program that has room
+in-passes : (t : Target) (r : Row) (at v : ℕ) → t .seen ≡ true → at < t .geometry .page → verdict (filling t r at) (event 2 v) ≡ Accepted
+unfolding orElse beforeReset misplaced fits notOffered pastEnd
+in-passes t r at v seen room = in-verdict (filling t r at) v ∙ rw (seen, lt-leb (t .geometry .page) at room)
+
+out-passes : (t : Target) (l c : ℕ) → t .seen ≡ true → works (t .luns) l ≡ false → c < t .geometry .page → verdict (giving t l c) (event 3 0) ≡ Accepted
+unfolding orElse badRecord beforeReset misplaced fits lunWorks pastEnd
+out-passes t l c seen idle room = out-verdict (giving t l c) 0 ∙ rw (seen, idle, lt-leb (t .geometry .page) c room)
+
+or-false : (b : Bool) → (b || false) ≡ b
+or-false true = refl
+or-false false = refl
+
+module _ (params flags : List ℕ) (b : Buffers) where
+  abbrev Fit : Target → Type 0
+  Fit t = usable t (length params) (length (b .array)) (length (b .registers)) (length (b .counts)) (length flags) ≡ true
+
+  in-step : (t : Target) (r : Row) (at v : ℕ) → Fit (filling t r at) → t .seen ≡ true → at < t .geometry .page
+      → stepOf (filling t r at) (event 2 v) params b flags
+      ≡ record { reply = reply.Accepted; target = filling t r (at + 1); buffers = record { array = b .array; registers = registersAfter (t .geometry) (work.Put (lunOf (t .geometry) r) (record { 0 = at }) v) (b .array) (b .registers); counts = b .counts } }
+  unfolding steady byVerdict accepted acceptedBy replyOf worked workOf arrayAfter countsAfter targetAfter highAfter clearAfter selectedAfter lunsAfter sequenceAfter outputAfter
+  in-step t r at v fit seen room =
+      step-steady (filling t r at) (event 2 v) params b flags fit
+      ∙ ap (λ x. byVerdict x (filling t r at) (event 2 v) params b flags) (in-passes t r at v seen room)
+      ∙ (λ j. record { reply = reply.Accepted; target = record { powered = t .powered; geometry = t .geometry; options = t .options; ids = t .ids; high = t .high; clear = t .clear; seen = or-false (t .seen) j; selected = t .selected; luns = t .luns; decoder = record { sequence = Filling r (record { 0 = at + 1 }); output = t .decoder .output } }; buffers = record { array = b .array; registers = registersAfter (t .geometry) (work.Put (lunOf (t .geometry) r) (record { 0 = at }) v) (b .array) (b .registers); counts = b .counts } })
+
+  out-step : (t : Target) (l c : ℕ) → Fit (giving t l c) → t .seen ≡ true → works (t .luns) l ≡ false → c < t .geometry .page
+      → stepOf (giving t l c) (event 3 0) params b flags
+      ≡ record { reply = reply.Byte (getD (b .registers) (l * t .geometry .page + c) 0); target = giving t l (c + 1); buffers = b }
+  unfolding steady byVerdict accepted acceptedBy replyOf outputByte worked workOf arrayAfter registersAfter countsAfter targetAfter highAfter clearAfter selectedAfter lunsAfter sequenceAfter outputAfter
+  out-step t l c fit seen idle room =
+      step-steady (giving t l c) (event 3 0) params b flags fit
+      ∙ ap (λ x. byVerdict x (giving t l c) (event 3 0) params b flags) (out-passes t l c seen idle room)
+      ∙ (λ j. record { reply = reply.Byte (getD (b .registers) (l * t .geometry .page + c) 0); target = record { powered = t .powered; geometry = t .geometry; options = t .options; ids = t .ids; high = t .high; clear = t .clear; seen = or-false (t .seen) j; selected = t .selected; luns = t .luns; decoder = record { sequence = t .decoder .sequence; output = output.Register l (record { 0 = c + 1 }) } }; buffers = b })
+
+-- a data record as an event
+in-event : (records : List ℕ) (j : ℕ) → isData false records j ≡ true → eventAt records j ≡ event 2 (getD records (2 * j + 1) 0)
+in-event records j h = ap (λ (k : ℕ). event k (getD records (2 * j + 1) 0)) (eqb-true (getD records (2 * j) 0) 2 h)
+
+out-event : (records : List ℕ) (j : ℕ) → isData true records j ≡ true → eventAt records j ≡ event 3 0
+out-event records j h =
+    let p = both (eqb (getD records (2 * j) 0) 3) (eqb (getD records (2 * j + 1) 0) 0) h in
+    λ x. record { kind = eqb-true (getD records (2 * j) 0) 3 (p .0) x; value = eqb-true (getD records (2 * j + 1) 0) 0 (p .1) x }
+
+fewer : {out : Bool} {records : List ℕ} {i k : ℕ} → AllData out records i (suc k) → AllData out records i k
+fewer {out} {records} {i} {k} a = record { each = λ j h. a .each j (omega arith) }
+
+-- for the loops: a test that holds, none and one more of the data records, and one more turn
+pub both-on : (k most : ℕ) (b : Bool) → (ltb k most && b) ≡ true → (k < most) × (b ≡ true)
+both-on k most b h =
+    let p = both (ltb k most) b h in
+    (ltb-true k most (p .0), p .1)
+
+pub none : (out : Bool) (records : List ℕ) (i : ℕ) → AllData out records i 0
+none out records i = record { each = λ j h. absurd (omega (arith, h)) }
+
+pub one-more : {out : Bool} {records : List ℕ} {i k : ℕ} → AllData out records i k → isData out records (i + k) ≡ true → AllData out records i (k + 1)
+one-more {out} {records} {i} {k} a h = record { each = λ j below. by j below (eqb j k) refl }
+  where
+    by : (j : ℕ) → j < k + 1 → (b : Bool) → eqb j k ≡ b → isData out records (i + j) ≡ true
+    by j below true e = ap (λ (n : ℕ). isData out records (i + n)) (eqb-true j k e) ∙ h
+    by j below false e = let other = eqb-false j k e in a .each j (smaller j below other)
+      where
+        smaller : (j : ℕ) → j < k + 1 → (j ≡ k → ⊥) → j < k
+        smaller j below other = omega arith
+
+pub gave-one : (registers : List ℕ) (i from j : ℕ) (room₀ room next : List ℕ) → next ≡ written room (i + j) (reply.Byte (getD registers (from + j) 0)) → room ≡ givenOut registers i from j room₀ → next ≡ givenOut registers i from (j + 1) room₀
+unfolding givenOut
+gave-one registers i from j room₀ room next e before =
+    e ∙ ap (λ (w : List ℕ). written w (i + j) (reply.Byte (getD registers (from + j) 0))) before
+    ∙ ap (λ (n : ℕ). givenOut registers i from n room₀) (sym (add-one j))
+
+pub took-one : (page base : ℕ) (records : List ℕ) (i at j : ℕ) (start s : Taking) (registers room : List ℕ)
+    → registers ≡ splice (s .registers) base page (set (part (s .registers) base page) (at + j) (getD records (2 * (i + j) + 1) 0)) → room ≡ written (s .room) (i + j) reply.Accepted
+    → s ≡ takenIn page base records i at j start → _≡_ {A = Taking} (record { registers = registers; room = room }) (takenIn page base records i at (j + 1) start)
+unfolding takenIn
+took-one page base records i at j start s registers room put told before =
+    (λ x. record { registers = put x; room = told x }) ∙ ap (tookOne page base records (i + j) (at + j)) before
+    ∙ ap (λ (n : ℕ). takenIn page base records i at n start) (sym (add-one j))
+
+module _ (params flags records : List ℕ) (t : Target) (i : ℕ) (b : Buffers) (room : List ℕ) (seen : t .seen ≡ true) where
+  -- where the run stands after k data-in cycles
+  module _ (r : Row) (at : ℕ) where
+    abbrev took : ℕ → Taking
+    took k = takenIn (t .geometry .page) (lunOf (t .geometry) r * t .geometry .page) records i at k (record { registers = b .registers; room = room })
+
+    abbrev pub inAfter : ℕ → Running
+    inAfter k = record { target = filling t r (at + k); done = i + k; buffers = record { array = b .array; registers = took k .registers; counts = b .counts }; room = took k .room }
+
+    in-next : (k : ℕ) → standsUsable params flags (inAfter k) ≡ true → at + k < t .geometry .page → isData false records (i + k) ≡ true
+        → inAfter (suc k) ≡ oneMore params flags (inAfter k) (eventAt records (i + k))
+    unfolding standsUsable oneMore takenIn registersAfter
+    in-next k fit here data-in =
+        let up : at + suc k ≡ at + k + 1 = omega arith in
+        let on : i + suc k ≡ i + k + 1 = omega arith in
+        (λ x. record { target = filling t r (up x); done = on x; buffers = record { array = b .array; registers = took (suc k) .registers; counts = b .counts }; room = took (suc k) .room })
+        ∙ sym (ap (λ (o : Outcome). record { target = o .target; done = i + k + 1; buffers = o .buffers; room = written (took k .room) (i + k) (o .reply) })
+        (in-step params flags (record { array = b .array; registers = took k .registers; counts = b .counts }) t r (at + k) (getD records (2 * (i + k) + 1) 0) fit seen here))
+        ∙ ap (oneMore params flags (inAfter k)) (sym (in-event records (i + k) data-in))
+
+    pub in-run : (k : ℕ) (z : Running) → at + k ≤ t .geometry .page → 2 * (i + k) ≤ length records → AllData false records i k → standsUsable params flags (inAfter 0) ≡ true
+        → ranAll params flags (drop (i + 0) (eventsOf records)) (inAfter 0) ≡ z
+        → (standsUsable params flags (inAfter k) ≡ true) × (ranAll params flags (drop (i + k) (eventsOf records)) (inAfter k) ≡ z)
+    in-run zero z fits there all fit before = (fit, before)
+    in-run (suc k) z fits there all fit before =
+        let earlier = in-run k z (omega arith) (omega arith) (fewer all) fit before in
+        let next = in-next k (earlier .0) (omega arith) (all .each k (omega arith)) in
+        let on : i + suc k ≡ i + k + 1 = omega arith in (
+          ap (standsUsable params flags) next ∙ stands-kept params flags (inAfter k) (eventAt records (i + k)) ∙ earlier .0,
+          ap (λ (n : ℕ). ranAll params flags (drop n (eventsOf records)) (inAfter (suc k))) on
+              ∙ turned params flags records (i + k) (inAfter k) (inAfter (suc k)) z (omega arith) next (earlier .1),
+        )
+
+  -- after k data-out cycles
+  module _ (l c : ℕ) (idle : works (t .luns) l ≡ false) where
+    abbrev pub outAfter : ℕ → Running
+    outAfter k = record { target = giving t l (c + k); done = i + k; buffers = b; room = givenOut (b .registers) i (l * t .geometry .page + c) k room }
+
+    out-next : (k : ℕ) → standsUsable params flags (outAfter k) ≡ true → c + k < t .geometry .page → isData true records (i + k) ≡ true
+        → outAfter (suc k) ≡ oneMore params flags (outAfter k) (eventAt records (i + k))
+    unfolding standsUsable oneMore givenOut
+    out-next k fit here data-out =
+        let up : c + suc k ≡ c + k + 1 = omega arith in
+        let on : i + suc k ≡ i + k + 1 = omega arith in
+        let place : l * t .geometry .page + c + k ≡ l * t .geometry .page + (c + k) = omega arith in
+        (λ x. record { target = giving t l (up x); done = on x; buffers = b; room = written (givenOut (b .registers) i (l * t .geometry .page + c) k room) (i + k) (reply.Byte (getD (b .registers) (place x) 0)) })
+        ∙ sym (ap (λ (o : Outcome). record { target = o .target; done = i + k + 1; buffers = o .buffers; room = written (givenOut (b .registers) i (l * t .geometry .page + c) k room) (i + k) (o .reply) })
+        (out-step params flags b t l (c + k) fit seen idle here))
+        ∙ ap (oneMore params flags (outAfter k)) (sym (out-event records (i + k) data-out))
+
+    pub out-run : (k : ℕ) (z : Running) → c + k ≤ t .geometry .page → 2 * (i + k) ≤ length records → AllData true records i k → standsUsable params flags (outAfter 0) ≡ true
+        → ranAll params flags (drop (i + 0) (eventsOf records)) (outAfter 0) ≡ z
+        → (standsUsable params flags (outAfter k) ≡ true) × (ranAll params flags (drop (i + k) (eventsOf records)) (outAfter k) ≡ z)
+    out-run zero z fits there all fit before = (fit, before)
+    out-run (suc k) z fits there all fit before =
+        let earlier = out-run k z (omega arith) (omega arith) (fewer all) fit before in
+        let next = out-next k (earlier .0) (omega arith) (all .each k (omega arith)) in
+        let on : i + suc k ≡ i + k + 1 = omega arith in (
+          ap (standsUsable params flags) next ∙ stands-kept params flags (outAfter k) (eventAt records (i + k)) ∙ earlier .0,
+          ap (λ (n : ℕ). ranAll params flags (drop n (eventsOf records)) (outAfter (suc k))) on
+              ∙ turned params flags records (i + k) (outAfter k) (outAfter (suc k)) z (omega arith) next (earlier .1),
+        )
+
+-- at most the lesser is at most both
+pub within-both : (a b : ℕ) {m k : ℕ} → m ≡ min a b → k ≤ m → (k ≤ a) × (k ≤ b)
+within-both a b {m} {k} e h = (omega (arith, min-le-left a b), omega (arith, min-le-right a b))
+
+-- what rule 13 says of a program's place, and of a register that is put out
+module _ (t : Target) (params array registers counts flags : List ℕ) (fit : usable t (length params) (length array) (length registers) (length counts) (length flags) ≡ true) where
+  pub fill-room : (r : Row) (at : Column) → t .decoder .sequence ≡ Filling r at → (at .0 ≤ t .geometry .page) × (lunOf (t .geometry) r * t .geometry .page + t .geometry .page ≤ length registers) × (length registers ≤ 73728)
+  fill-room r at e =
+      let p = passes t params array registers counts flags fit in
+      let k : sequenceSound (t .geometry) (Filling r at) ≡ true = subst (λ s. sequenceSound (t .geometry) s ≡ true) e (sound t (p .record-sound) .sequence) in
+      let few = registers-all (limits (t .geometry) (sound t (p .record-sound) .limited)) in
+      (filling-place (t .geometry) r at k, omega (arith, piece (t .geometry .page) (row-lun (t .geometry) r (filling-row (t .geometry) r at k)), p .sizes .registers-size), omega (arith, few, p .sizes .registers-size))
+
+  pub give-room : (l : ℕ) (c : Column) → t .decoder .output ≡ output.Register l c → (c .0 ≤ t .geometry .page) × (l * t .geometry .page + t .geometry .page ≤ length registers) × (length registers ≤ 73728)
+  give-room l c e =
+      let p = passes t params array registers counts flags fit in
+      let k = register-place (t .geometry) l c (subst (λ o. outputSound (t .geometry) o ≡ true) e (sound t (p .record-sound) .output)) in
+      let few = registers-all (limits (t .geometry) (sound t (p .record-sound) .limited)) in
+      (k .1, omega (arith, piece (t .geometry .page) (k .0), p .sizes .registers-size), omega (arith, few, p .sizes .registers-size))
+
+-- a burst carries the trace on
+module _ (params flags records array registers counts room : List ℕ) (t : Target) (i : ℕ) (there : 2 * i ≤ length records) where
+  abbrev held : Buffers
+  held = record { array = array; registers = registers; counts = counts }
+
+  abbrev now : Running
+  now = standing t i array registers counts room
+
+  pub nothing-on : Carried params flags records array counts t i registers room t (i + 0) registers room
+  nothing-on =
+      let same : i + 0 ≡ i = omega arith in
+      subst (λ (n : ℕ). Carried params flags records array counts t i registers room t n registers room) (sym same) (record { within = there; fit = refl; rest = refl })
+
+  module _ (fit : usable t (length params) (length array) (length registers) (length counts) (length flags) ≡ true) (seen : t .seen ≡ true) where
+    module _ (r : Row) (at : Column) (e : t .decoder .sequence ≡ Filling r at) where
+      in-zero : now ≡ inAfter params flags records t i held room seen r (at .0) 0
+      unfolding takenIn
+      in-zero =
+          let up : at .0 ≡ at .0 + 0 = omega arith in
+          let on : i ≡ i + 0 = omega arith in
+          (λ x. standing (record { powered = t .powered; geometry = t .geometry; options = t .options; ids = t .ids; high = t .high; clear = t .clear; seen = t .seen; selected = t .selected; luns = t .luns; decoder = record { sequence = e x; output = t .decoder .output } }) i array registers counts room)
+          ∙ (λ x. standing (filling t r (up x)) (on x) array registers counts room)
+
+      pub filled-on : (k : ℕ) (next : Target) (put told : List ℕ) → at .0 + k ≤ t .geometry .page → 2 * (i + k) ≤ length records → AllData false records i k → next ≡ filling t r (at .0 + k)
+          → _≡_ {A = Taking} (record { registers = put; room = told }) (takenIn (t .geometry .page) (lunOf (t .geometry) r * t .geometry .page) records i (at .0) k (record { registers = registers; room = room }))
+          → Carried params flags records array counts t i registers room next (i + k) put told
+      unfolding standsUsable
+      filled-on k next put told fits upto all is took =
+          let before : ranAll params flags (drop (i + 0) (eventsOf records)) (inAfter params flags records t i held room seen r (at .0) 0) ≡ ranAll params flags (drop i (eventsOf records)) now
+          = (let on : i + 0 ≡ i = omega arith in ap (λ (n : ℕ). ranAll params flags (drop n (eventsOf records)) (inAfter params flags records t i held room seen r (at .0) 0)) on ∙ ap (ranAll params flags (drop i (eventsOf records))) (sym in-zero)) in
+          let after = in-run params flags records t i held room seen r (at .0) k _ fits upto all (ap (standsUsable params flags) (sym in-zero) ∙ fit) before in
+          let end : standing next (i + k) array put counts told ≡ inAfter params flags records t i held room seen r (at .0) k = (λ x. standing (is x) (i + k) array (took x .registers) counts (took x .room)) in
+          record { within = upto; fit = ap (standsUsable params flags) end ∙ after .0 ∙ sym fit; rest = ap (ranAll params flags (drop (i + k) (eventsOf records))) end ∙ after .1 }
+
+    module _ (l : ℕ) (c : Column) (e : t .decoder .output ≡ output.Register l c) (idle : works (t .luns) l ≡ false) where
+      out-zero : now ≡ outAfter params flags records t i held room seen l (c .0) idle 0
+      unfolding givenOut
+      out-zero =
+          let up : c .0 ≡ c .0 + 0 = omega arith in
+          let on : i ≡ i + 0 = omega arith in
+          (λ x. standing (record { powered = t .powered; geometry = t .geometry; options = t .options; ids = t .ids; high = t .high; clear = t .clear; seen = t .seen; selected = t .selected; luns = t .luns; decoder = record { sequence = t .decoder .sequence; output = e x } }) i array registers counts room)
+          ∙ (λ x. standing (giving t l (up x)) (on x) array registers counts room)
+
+      pub given-on : (k : ℕ) (next : Target) (told : List ℕ) → c .0 + k ≤ t .geometry .page → 2 * (i + k) ≤ length records → AllData true records i k → next ≡ giving t l (c .0 + k)
+          → told ≡ givenOut registers i (l * t .geometry .page + c .0) k room → Carried params flags records array counts t i registers room next (i + k) registers told
+      unfolding standsUsable
+      given-on k next told fits upto all is gave =
+          let before : ranAll params flags (drop (i + 0) (eventsOf records)) (outAfter params flags records t i held room seen l (c .0) idle 0) ≡ ranAll params flags (drop i (eventsOf records)) now
+          = (let on : i + 0 ≡ i = omega arith in ap (λ (n : ℕ). ranAll params flags (drop n (eventsOf records)) (outAfter params flags records t i held room seen l (c .0) idle 0)) on ∙ ap (ranAll params flags (drop i (eventsOf records))) (sym out-zero)) in
+          let after = out-run params flags records t i held room seen l (c .0) idle k _ fits upto all (ap (standsUsable params flags) (sym out-zero) ∙ fit) before in
+          let end : standing next (i + k) array registers counts told ≡ outAfter params flags records t i held room seen l (c .0) idle k = (λ x. standing (is x) (i + k) array registers counts (gave x)) in
+          record { within = upto; fit = ap (standsUsable params flags) end ∙ after .0 ∙ sym fit; rest = ap (ranAll params flags (drop (i + k) (eventsOf records))) end ∙ after .1 }
