@@ -1,0 +1,54 @@
+-- `cases::compared::buffer_compared` meets its contract.
+-- Assumes nothing.
+use mathlib.Core.Path.{refl}
+use Rattle.cases.proofs.compared.buffer_compared.Statement.{statement}
+use Rattle.cases.proofs.compared.buffer_compared.Tie as tie
+
+abbrev Inv-loop : tie.InvT-loop
+Inv-loop n₀ what expected at length s i₀ n i = ?
+
+abbrev μ-loop : tie.MeasureT-loop
+μ-loop n₀ what expected at length s i₀ n i = ?
+
+loop-holds : tie.Need-loop-holds Inv-loop μ-loop
+loop-holds c = ?
+
+add-requires : tie.Need-add-requires Inv-loop μ-loop
+add-requires c κs = ?
+
+get-requires : tie.Need-get-requires Inv-loop μ-loop
+get-requires c κs = ?
+
+get-requires-2 : tie.Need-get-requires-2 Inv-loop μ-loop
+get-requires-2 c κs = ?
+
+compared-requires : tie.Need-compared-requires Inv-loop μ-loop
+compared-requires c κs = ?
+
+add-i : tie.Need-add-i Inv-loop μ-loop
+add-i c = ?
+
+loop-less : tie.Need-loop-less Inv-loop μ-loop
+loop-less c = ?
+
+loop-again : tie.Need-loop-again Inv-loop μ-loop
+loop-again c = ?
+
+returns : tie.Need-returns Inv-loop μ-loop
+returns c = refl
+
+pub buffer-compared-spec : {M : Type 1} → statement M
+buffer-compared-spec =
+    tie.close
+    (tie.spec
+    Inv-loop
+    μ-loop
+    loop-holds
+    add-requires
+    get-requires
+    get-requires-2
+    compared-requires
+    add-i
+    loop-less
+    loop-again
+    returns)

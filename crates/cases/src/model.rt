@@ -1,0 +1,252 @@
+// The proved model, lent what the table says.
+use crate::compared::buffer_compared;
+use crate::compared::compared;
+use crate::compared::counted;
+use crate::numbers::Array;
+use crate::numbers::COUNTS_AT;
+use crate::numbers::Expected;
+use crate::numbers::Few;
+use crate::numbers::Numbers;
+use crate::numbers::Page;
+use crate::numbers::REGISTERS_AT;
+use crate::numbers::Registers;
+use crate::numbers::add;
+use crate::numbers::byte;
+use crate::numbers::clear;
+use crate::numbers::copy;
+use crate::numbers::count;
+use crate::numbers::fill;
+use crate::numbers::lay;
+use crate::place;
+use bench::Stepped;
+use bench::step;
+use power::Powered;
+use power::power_number;
+use power::power_on;
+use target::Event;
+use target::Reply;
+use target::Target;
+use target::picks::pick_number;
+use target::reply_first;
+use target::reply_second;
+
+fn lent_step(
+    t: Target,
+    n: &Numbers,
+    e: Event,
+    page: &[u8],
+    array: &mut [u8],
+    registers: &mut [u8],
+    counts: &mut [u8],
+    flags: &[u8],
+) -> Stepped {
+    let p = count(n[place::PAGE_LEN], page);
+    let a = count(n[place::ARRAY_LEN], array);
+    let r = count(n[place::REGISTERS_LEN], registers);
+    let c = count(n[place::COUNTS_LEN], counts);
+    let f = count(n[place::FLAGS_LEN], flags);
+    step(
+        t,
+        e,
+        &page[..p],
+        &mut array[..a],
+        &mut registers[..r],
+        &mut counts[..c],
+        &flags[..f],
+    )
+}
+
+fn lent_power(
+    n: &Numbers,
+    page: &[u8],
+    array: &[u8],
+    registers: &mut [u8],
+    counts: &[u8],
+    flags: &[u8],
+) -> Powered {
+    let p = count(n[place::PAGE_LEN], page);
+    let a = count(n[place::ARRAY_LEN], array);
+    let r = count(n[place::REGISTERS_LEN], registers);
+    let c = count(n[place::COUNTS_LEN], counts);
+    let f = count(n[place::FLAGS_LEN], flags);
+    power_on(
+        &page[..p],
+        byte(n[place::DEVICE]),
+        &array[..a],
+        &mut registers[..r],
+        &counts[..c],
+        &flags[..f],
+    )
+}
+
+// What is expected of the buffers right after a power-on: the registers are FFh if it is accepted, else as they were.
+fn expect_power(expected: &mut Expected, first: &Few, accepted: bool) {
+    lay(expected);
+    fill(
+        expected,
+        REGISTERS_AT,
+        1057,
+        pick_number(accepted, 0xff, 0),
+    );
+    copy(expected, COUNTS_AT, 65, first);
+}
+
+// Power-on with everything as new; `answer` is expected, 0 for accepted.
+pub fn power(
+    n: &mut Numbers,
+    answer: usize,
+    page: &Page,
+    first: &Few,
+    flags: &Few,
+    array: &mut Array,
+    registers: &mut Registers,
+    counts: &mut Few,
+    expected: &mut Expected,
+) -> Target {
+    lay(array);
+    clear(registers);
+    copy(counts, 0, 65, first);
+    expect_power(expected, first, answer == 0);
+    let on = lent_power(n, page, array, registers, counts, flags);
+    let a = on.answer;
+    let got = power_number(a) as usize;
+    compared(n, place::POWERS, b", power-on ", 0, answer, got);
+    on.target
+}
+
+// An event as one number, kind and value.
+fn event(v: usize) -> Event {
+    Event {
+        kind: byte(v / 256),
+        value: byte(v),
+    }
+}
+
+fn two(a: u8, b: u8) -> usize {
+    a as usize * 256 + b as usize
+}
+
+// A reply as one number, its two bytes.
+fn answer_of(r: Reply) -> usize {
+    two(reply_first(r), reply_second(r))
+}
+
+// Where any byte will do, the byte doesn't count.
+fn shown(n: &Numbers, got: usize) -> usize {
+    if n[place::ANY] == 1 {
+        got / 256 * 256
+    } else {
+        got
+    }
+}
+
+// Event number `i` of a word, on the part itself.
+fn one_event(
+    t: Target,
+    n: &mut Numbers,
+    i: usize,
+    page: &Page,
+    flags: &Few,
+    array: &mut Array,
+    registers: &mut Registers,
+    counts: &mut Few,
+) -> Target {
+    let e = event(n[place::FIRST]);
+    let s = lent_step(t, n, e, page, array, registers, counts, flags);
+    let r = s.reply;
+    let got = shown(n, answer_of(r));
+    let expected = n[place::SECOND];
+    compared(n, place::REPLIES, b", event ", add(i, 1), expected, got);
+    s.target
+}
+
+// A word of events: the same one so many times.
+pub fn events(
+    t: Target,
+    n: &mut Numbers,
+    page: &Page,
+    flags: &Few,
+    array: &mut Array,
+    registers: &mut Registers,
+    counts: &mut Few,
+) -> Target {
+    let times = n[place::TIMES];
+    let mut last = t;
+    let mut i: usize = 0;
+    while i < times {
+        last = one_event(
+            last,
+            n,
+            i,
+            page,
+            flags,
+            array,
+            registers,
+            counts,
+        );
+        i += 1;
+    }
+    last
+}
+
+// A cell: the event and then a data out, on copies.
+fn tried(
+    t: Target,
+    n: &mut Numbers,
+    page: &Page,
+    flags: &Few,
+    array: &mut Array,
+    registers: &mut Registers,
+    counts: &mut Few,
+) {
+    let e = event(n[place::FIRST]);
+    let s = lent_step(t, n, e, page, array, registers, counts, flags);
+    let r = s.reply;
+    let expected = n[place::SECOND];
+    compared(n, place::REPLIES, b", reply ", 1, expected, answer_of(r));
+    let then = lent_step(
+        s.target,
+        n,
+        event(0x0300),
+        page,
+        array,
+        registers,
+        counts,
+        flags,
+    );
+    let q = then.reply;
+    let due = n[place::THIRD];
+    compared(n, place::REPLIES, b", reply ", 2, due, answer_of(q));
+}
+
+pub fn cell(
+    t: Target,
+    n: &mut Numbers,
+    page: &Page,
+    flags: &Few,
+    array: &Array,
+    registers: &Registers,
+    counts: &Few,
+) {
+    let mut a = *array;
+    let mut r = *registers;
+    let mut c = *counts;
+    counted(n, place::CELLS);
+    tried(t, n, page, flags, &mut a, &mut r, &mut c);
+}
+
+// All three buffers.
+pub fn buffers_compared(
+    n: &mut Numbers,
+    expected: &Expected,
+    array: &Array,
+    registers: &Registers,
+    counts: &Few,
+) {
+    let a = n[place::ARRAY_LEN];
+    let r = n[place::REGISTERS_LEN];
+    let c = n[place::COUNTS_LEN];
+    buffer_compared(n, b", array byte ", expected, 0, a, array);
+    buffer_compared(n, b", register byte ", expected, REGISTERS_AT, r, registers);
+    buffer_compared(n, b", count ", expected, COUNTS_AT, c, counts);
+}
