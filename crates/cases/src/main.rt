@@ -6,6 +6,7 @@ mod numbers;
 mod place;
 mod spoils;
 
+use cells::fill;
 use compared::labelled;
 use compared::text;
 use compared::unreadable;
@@ -21,9 +22,11 @@ use numbers::Numbers;
 use numbers::Page;
 use numbers::REGISTERS_AT;
 use numbers::Registers;
+use numbers::Text;
 use numbers::add;
-use numbers::clear;
-use numbers::fill;
+use numbers::byte;
+use numbers::expect;
+use numbers::get;
 use numbers::keep;
 use numbers::one_more;
 use numbers::set;
@@ -116,9 +119,9 @@ fn begin(
         b'W' => n[place::WRONG] = 1,
         b'Q' => buffers_compared(n, expected, array, registers, counts),
         b'P' => {
-            clear(page);
-            clear(first);
-            clear(flags);
+            fill(page, 0);
+            fill(first, 0);
+            fill(flags, 0);
         }
         _ => {
             if !known(c) {
@@ -165,15 +168,15 @@ fn done(
         }
         // A, V, K
         65 => {
-            fill(expected, x, times, y);
+            expect(expected, x, times, y);
             t
         }
         86 => {
-            fill(expected, add(REGISTERS_AT, x), times, y);
+            expect(expected, add(REGISTERS_AT, x), times, y);
             t
         }
         75 => {
-            fill(expected, add(COUNTS_AT, x), times, y);
+            expect(expected, add(COUNTS_AT, x), times, y);
             t
         }
         // O
@@ -189,7 +192,7 @@ fn done(
             expected,
         ),
         // I
-        73 => events(t, n, page, flags, array, registers, counts),
+        73 => events(t, n, times, page, flags, array, registers, counts),
         // X
         88 => {
             cell(t, n, page, flags, array, registers, counts);
@@ -306,7 +309,8 @@ fn character(
     }
 }
 
-fn table(text: &[u8], n: &mut Numbers) {
+// The first `size` bytes of the text.
+fn table(text: &Text, size: usize, n: &mut Numbers) {
     let mut page = [0u8; 257];
     let mut first = [0u8; 65];
     let mut flags = [0u8; 65];
@@ -316,10 +320,10 @@ fn table(text: &[u8], n: &mut Numbers) {
     let mut expected = [0u8; 34915];
     let mut t = unpowered();
     let mut i: usize = 0;
-    while i < text.len() {
+    while i < size {
         t = character(
             t,
-            text[i],
+            byte(get(text, i)),
             n,
             &mut page,
             &mut first,
@@ -351,19 +355,26 @@ fn summary(n: &Numbers) {
     text(b"\n");
 }
 
-fn main() {
+// How many bytes the table has; 0 if there is none.
+fn read(text: &mut Text) -> usize {
     let path = b"table";
     let fd = os::open_read(path);
     if fd < 0 {
         os::fail(path);
-        return;
+        0
+    } else {
+        let size = io::read_full(fd, text);
+        libc::close(fd);
+        size
     }
-    let mut all = [0u8; 1048576];
-    let size = io::read_full(fd, &mut all);
-    libc::close(fd);
+}
+
+fn main() {
+    let mut text = [0u8; 524288];
     let mut n = [0usize; 26];
     n[place::LINE] = 1;
     new_word(&mut n);
-    table(&all[..size], &mut n);
+    let size = read(&mut text);
+    table(&text, size, &mut n);
     summary(&n);
 }

@@ -12,14 +12,14 @@ use crate::numbers::REGISTERS_AT;
 use crate::numbers::Registers;
 use crate::numbers::add;
 use crate::numbers::byte;
-use crate::numbers::clear;
-use crate::numbers::copy;
 use crate::numbers::count;
-use crate::numbers::fill;
+use crate::numbers::expect;
+use crate::numbers::expect_counts;
 use crate::numbers::lay;
 use crate::place;
 use bench::Stepped;
 use bench::step;
+use cells::fill;
 use power::Powered;
 use power::power_number;
 use power::power_on;
@@ -82,13 +82,9 @@ fn lent_power(
 // What is expected of the buffers right after a power-on: the registers are FFh if it is accepted, else as they were.
 fn expect_power(expected: &mut Expected, first: &Few, accepted: bool) {
     lay(expected);
-    fill(
-        expected,
-        REGISTERS_AT,
-        1057,
-        pick_number(accepted, 0xff, 0),
-    );
-    copy(expected, COUNTS_AT, 65, first);
+    let v = pick_number(accepted, 0xff, 0);
+    expect(expected, REGISTERS_AT, 1057, v);
+    expect_counts(expected, first);
 }
 
 // Power-on with everything as new; `answer` is expected, 0 for accepted.
@@ -104,8 +100,8 @@ pub fn power(
     expected: &mut Expected,
 ) -> Target {
     lay(array);
-    clear(registers);
-    copy(counts, 0, 65, first);
+    fill(registers, 0);
+    *counts = *first;
     expect_power(expected, first, answer == 0);
     let on = lent_power(n, page, array, registers, counts, flags);
     let a = on.answer;
@@ -164,13 +160,13 @@ fn one_event(
 pub fn events(
     t: Target,
     n: &mut Numbers,
+    times: usize,
     page: &Page,
     flags: &Few,
     array: &mut Array,
     registers: &mut Registers,
     counts: &mut Few,
 ) -> Target {
-    let times = n[place::TIMES];
     let mut last = t;
     let mut i: usize = 0;
     while i < times {

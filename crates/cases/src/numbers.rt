@@ -2,6 +2,9 @@
 use crate::place;
 ghost use Rattle.io.specs.Counts.{Counts};
 
+// The table.
+pub type Text = [u8; 524288];
+
 // By the places of `place`.
 pub type Numbers = [usize; 26];
 
@@ -65,28 +68,19 @@ pub fn one_more(n: &mut Numbers, i: usize) {
     keep(n, i, v);
 }
 
-pub fn clear(s: &mut [u8]) {
+// `times` bytes of what is expected, from place `at` on.
+pub fn expect(expected: &mut Expected, at: usize, times: usize, v: usize) {
     let mut i: usize = 0;
-    while i < s.len() {
-        s[i] = 0;
+    while i < times {
+        set(expected, add(at, i), v);
         i += 1;
     }
 }
 
-// `times` bytes from place `at` on.
-pub fn fill(s: &mut [u8], at: usize, times: usize, v: usize) {
+pub fn expect_counts(expected: &mut Expected, counts: &Few) {
     let mut i: usize = 0;
-    while i < times {
-        set(s, add(at, i), v);
-        i += 1;
-    }
-}
-
-// The first `times` bytes of `from`, put from place `at` on.
-pub fn copy(s: &mut [u8], at: usize, times: usize, from: &[u8]) {
-    let mut i: usize = 0;
-    while i < times {
-        set(s, add(at, i), get(from, i));
+    while i < 65 {
+        set(expected, add(COUNTS_AT, i), get(counts, i));
         i += 1;
     }
 }

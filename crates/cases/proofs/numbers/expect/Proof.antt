@@ -1,41 +1,39 @@
--- `cases::numbers::fill` meets its contract.
+-- `cases::numbers::expect` is safe and ends.
 -- Assumes nothing.
-use mathlib.Core.Path.{refl}
-use Rattle.cases.proofs.numbers.fill.Statement.{statement}
-use Rattle.cases.proofs.numbers.fill.Tie as tie
+use Prim.Native.Nat.{_-_}
+use native.Mathlib.Omega.{arith}
+use Rattle.cases.proofs.numbers.expect.Statement.{statement}
+use Rattle.cases.proofs.numbers.expect.Tie as tie
 
 abbrev Inv-loop : tie.InvT-loop
-Inv-loop s₀ at times v i₀ s i = ?
+Inv-loop expected₀ at times v i₀ expected i = Unit {0}
 
 abbrev μ-loop : tie.MeasureT-loop
-μ-loop s₀ at times v i₀ s i = ?
+μ-loop expected₀ at times v i₀ expected i = times - i
 
 loop-holds : tie.Need-loop-holds Inv-loop μ-loop
-loop-holds c = ?
+loop-holds c = tt
 
 add-requires : tie.Need-add-requires Inv-loop μ-loop
-add-requires c κs = ?
+add-requires c κs = tt
 
 set-requires : tie.Need-set-requires Inv-loop μ-loop
-set-requires c κs = ?
+set-requires c κs = tt
 
 add-i : tie.Need-add-i Inv-loop μ-loop
-add-i c = ?
+add-i c = omega arith
 
 loop-less : tie.Need-loop-less Inv-loop μ-loop
-loop-less c = ?
+loop-less c = omega arith
 
 loop-again : tie.Need-loop-again Inv-loop μ-loop
-loop-again c = ?
-
-same-length : tie.Need-same-length Inv-loop μ-loop
-same-length c = ?
+loop-again c = tt
 
 returns : tie.Need-returns Inv-loop μ-loop
-returns c = refl
+returns c = tt
 
-pub fill-spec : {M : Type 1} → statement M
-fill-spec =
+pub expect-spec : {M : Type 1} → statement M
+expect-spec =
     tie.close
     (tie.spec
     Inv-loop
@@ -46,5 +44,4 @@ fill-spec =
     add-i
     loop-less
     loop-again
-    same-length
     returns)

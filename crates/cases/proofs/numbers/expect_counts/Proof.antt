@@ -1,44 +1,42 @@
--- `cases::numbers::copy` meets its contract.
+-- `cases::numbers::expect_counts` is safe and ends.
 -- Assumes nothing.
-use mathlib.Core.Path.{refl}
-use Rattle.cases.proofs.numbers.copy.Statement.{statement}
-use Rattle.cases.proofs.numbers.copy.Tie as tie
+use Prim.Native.Nat.{_-_}
+use native.Mathlib.Omega.{arith}
+use Rattle.cases.proofs.numbers.expect_counts.Statement.{statement}
+use Rattle.cases.proofs.numbers.expect_counts.Tie as tie
 
 abbrev Inv-loop : tie.InvT-loop
-Inv-loop s₀ at times from i₀ s i = ?
+Inv-loop expected₀ counts i₀ expected i = Unit {0}
 
 abbrev μ-loop : tie.MeasureT-loop
-μ-loop s₀ at times from i₀ s i = ?
+μ-loop expected₀ counts i₀ expected i = 65 - i
 
 loop-holds : tie.Need-loop-holds Inv-loop μ-loop
-loop-holds c = ?
+loop-holds c = tt
 
 add-requires : tie.Need-add-requires Inv-loop μ-loop
-add-requires c κs = ?
+add-requires c κs = tt
 
 get-requires : tie.Need-get-requires Inv-loop μ-loop
-get-requires c κs = ?
+get-requires c κs = tt
 
 set-requires : tie.Need-set-requires Inv-loop μ-loop
-set-requires c κs = ?
+set-requires c κs = tt
 
 add-i : tie.Need-add-i Inv-loop μ-loop
-add-i c = ?
+add-i c = omega arith
 
 loop-less : tie.Need-loop-less Inv-loop μ-loop
-loop-less c = ?
+loop-less c = omega arith
 
 loop-again : tie.Need-loop-again Inv-loop μ-loop
-loop-again c = ?
-
-same-length : tie.Need-same-length Inv-loop μ-loop
-same-length c = ?
+loop-again c = tt
 
 returns : tie.Need-returns Inv-loop μ-loop
-returns c = refl
+returns c = tt
 
-pub copy-spec : {M : Type 1} → statement M
-copy-spec =
+pub expect-counts-spec : {M : Type 1} → statement M
+expect-counts-spec =
     tie.close
     (tie.spec
     Inv-loop
@@ -50,5 +48,4 @@ copy-spec =
     add-i
     loop-less
     loop-again
-    same-length
     returns)
