@@ -23,6 +23,8 @@ The file's lines, a letter and then words of hexadecimal numbers; times* before 
   O  power-on, and the answer, 0 for accepted
   I  events: event=reply, 01xx for any byte
   X  cells: event=reply>reply of a data out after it, each tried from the state that the lines above led to
+  D  the bytes of a trace     E  what its reply room is to hold at its start; the rest stays EEh, as all 64 bytes are before
+  Y  the trace is run: room lent:answer, 0 for done
   R  the record, with one of its numbers set: number:value (RECORD below)
   A V K  what the array, the registers, the counts are to hold from now on: place:value     Q  they are compared
 Array byte i is i mod 251 at power-on, and the registers hold 00h before it; an accepted one "fills the registers with FFh".
@@ -693,6 +695,47 @@ case('document 01, the whole case')
 line('I', ['00FF=0000', '0090=0000', '0120=0000', '0300=014F', '0300=014E', '0300=0146', '0300=0149', '0300=0208'])
 kept()
 
+
+def trace(records, room, replies, answer=0):
+    if records:
+        line('D', records.split())
+    if replies:
+        line('E', replies.split())
+    line('Y', ['%X:%X' % (room, answer)])
+    kept()
+
+
+WHOLE = '00 FF 00 90 01 20 03 00 03 00 03 00 03 00 03 00'
+WHOLE_OUT = '00 00 00 00 00 00 01 4F 01 4E 01 46 01 49 02 08'
+case('document 01, the whole case, as a byte trace')
+trace(WHOLE, 16, WHOLE_OUT)
+
+# "If the reply room is too short for all replies, the run is refused once with 16; room past the replies stays as it is." "An
+# odd last byte gets 02 0C, or 02 0D where 13 holds." Bad records "drop no sequence": the trace after it goes on.
+case('byte traces: reply room, odd last byte')
+trace(WHOLE, 15, '', 16)
+trace(WHOLE, 0, '', 16)
+trace('', 0, '')
+trace('03 00', 2, '02 02')
+trace(WHOLE, 64, WHOLE_OUT)
+trace(WHOLE, 17, WHOLE_OUT)
+trace('00 90 01', 3, '', 16)
+trace('00 90 01', 4, '00 00 02 0C')
+trace('01 20 03', 4, '00 00 02 0C')
+trace('03 00 00', 5, '01 4F 02 0C')
+trace('03 00 09 09 03', 6, '01 4E 02 0C 02 0C')
+trace('03', 1, '', 16)
+trace('03', 2, '02 0C')
+lengths(flags=-1)
+trace('03 00 03', 4, '02 0D 02 0D')
+trace('03 00 03', 3, '', 16)
+lengths()
+trace('03 00 03 00 03 00', 6, '01 46 01 49 02 08')
+lengths(flags=1)
+power(24)
+trace('00 FF 03', 4, '02 0D 02 0D')
+lengths()
+
 # (a) T1 array is 33,792 bytes; registers, counts and flags have "exactly these lengths" too. 24 is 18h.
 # "A refused power-on gives an unpowered target", and "13: target not powered".
 case('(a) the array of T1 is 33,792 bytes')
@@ -1169,7 +1212,8 @@ bad('LUN 3 failed', 1)
 fine('LUN 2 works', 1, look(0x2F) + given(0x80) + f(2) + given(0xE0))
 
 # ---------------------------------------------------------------------------------------------------------------------
-# Wrong on purpose, so that the program shows that it compares: nine expectations here are wrong, of each kind at least one.
+# Wrong on purpose, so that the program shows that it compares: eleven expectations here are wrong, of each kind at
+# least one.
 line('W', ['expectations that are wrong'])
 power(24)
 power(0)
@@ -1179,6 +1223,9 @@ array(*at(17, 18))
 registers(*at(3, 0x00))
 counts('1:01')
 kept()
+line('D', ['00', '33'])
+line('E', ['02', '03'])
+line('Y', ['4:10'])
 
 text = '\n'.join(OUT) + '\n'
 root = os.path.dirname(os.path.dirname(os.path.abspath(__file__)))

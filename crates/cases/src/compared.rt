@@ -1,5 +1,4 @@
 // Each comparison, counted; a mismatch is a line.
-use crate::numbers::Expected;
 use crate::numbers::Numbers;
 use crate::numbers::add;
 use crate::numbers::get;
@@ -69,7 +68,7 @@ pub fn compared(n: &mut Numbers, kind: usize, what: &[u8], at: usize, expected: 
 pub fn buffer_compared(
     n: &mut Numbers,
     what: &[u8],
-    expected: &Expected,
+    expected: &[u8],
     at: usize,
     length: usize,
     s: &[u8],
@@ -86,4 +85,19 @@ pub fn buffer_compared(
         );
         i += 1;
     }
+}
+
+fn unlike(a: usize, b: usize) -> usize {
+    if a == b { 0 } else { 1 }
+}
+
+// In how many of their first `length` places two buffers differ.
+pub fn differing(a: &[u8], b: &[u8], length: usize) -> usize {
+    let mut m: usize = 0;
+    let mut i: usize = 0;
+    while i < length {
+        m = add(m, unlike(get(a, i), get(b, i)));
+        i += 1;
+    }
+    m
 }

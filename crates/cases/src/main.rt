@@ -14,6 +14,7 @@ use model::buffers_compared;
 use model::cell;
 use model::events;
 use model::power;
+use model::traced;
 use numbers::Array;
 use numbers::COUNTS_AT;
 use numbers::Expected;
@@ -21,7 +22,9 @@ use numbers::Few;
 use numbers::Numbers;
 use numbers::Page;
 use numbers::REGISTERS_AT;
+use numbers::ROOM_AT;
 use numbers::Registers;
+use numbers::Tape;
 use numbers::Text;
 use numbers::add;
 use numbers::byte;
@@ -88,46 +91,21 @@ fn is_named(tag: usize) -> bool {
     (tag == 35) | (tag == 80) | (tag == 83) | (tag == 84) | (tag == 87)
 }
 
-fn known(tag: u8) -> bool {
-    match tag {
-        b'#' | b'A' | b'C' | b'F' | b'G' | b'I' | b'K' | b'L' | b'O' | b'P' | b'Q' | b'R' | b'S' | b'T' | b'V' | b'W' | b'X' => true,
-        _ => false,
-    }
-}
-
 fn new_case(n: &mut Numbers, kind: usize) {
     one_more(n, kind);
     n[place::WRONG] = 0;
 }
 
-// A line's letter.
-fn begin(
-    n: &mut Numbers,
-    c: u8,
-    page: &mut Page,
-    first: &mut Few,
-    flags: &mut Few,
-    array: &Array,
-    registers: &Registers,
-    counts: &Few,
-    expected: &Expected,
-) {
+// A line's letter. P and Q are done with no word.
+fn begin(n: &mut Numbers, c: u8) {
     n[place::TAG] = c as usize;
     match c {
         b'S' => new_case(n, place::STATES),
         b'T' => new_case(n, place::CASES),
         b'W' => n[place::WRONG] = 1,
-        b'Q' => buffers_compared(n, expected, array, registers, counts),
-        b'P' => {
-            fill(page, 0);
-            fill(first, 0);
-            fill(flags, 0);
-        }
-        _ => {
-            if !known(c) {
-                unreadable(n);
-            }
-        }
+        b'P' | b'Q' => n[place::GIVEN] = 1,
+        b'#' | b'A' | b'C'..=b'G' | b'I' | b'K' | b'L' | b'O' | b'R' | b'V' | b'X' | b'Y' => {}
+        _ => unreadable(n),
     }
 }
 
@@ -135,6 +113,7 @@ fn begin(
 fn done(
     t: Target,
     n: &mut Numbers,
+    tape: &mut Tape,
     page: &mut Page,
     first: &mut Few,
     flags: &mut Few,
@@ -180,17 +159,7 @@ fn done(
             t
         }
         // O
-        79 => power(
-            n,
-            x,
-            page,
-            first,
-            flags,
-            array,
-            registers,
-            counts,
-            expected,
-        ),
+        79 => power(n, x, page, first, flags, array, registers, counts, expected),
         // I
         73 => events(t, n, times, page, flags, array, registers, counts),
         // X
@@ -200,6 +169,30 @@ fn done(
         }
         // R
         82 => spoiled(t, x, y),
+        // P
+        80 => {
+            fill(page, 0);
+            fill(first, 0);
+            fill(flags, 0);
+            t
+        }
+        // Q
+        81 => {
+            buffers_compared(n, expected, array, registers, counts);
+            t
+        }
+        // D, E
+        68 => {
+            set(tape, n[place::WORD], x);
+            one_more(n, place::TRACE_LEN);
+            t
+        }
+        69 => {
+            set(tape, add(ROOM_AT, n[place::WORD]), x);
+            t
+        }
+        // Y
+        89 => traced(t, n, tape, page, flags, array, registers, counts),
         _ => t,
     }
 }
@@ -208,6 +201,7 @@ fn done(
 fn word(
     t: Target,
     n: &mut Numbers,
+    tape: &mut Tape,
     page: &mut Page,
     first: &mut Few,
     flags: &mut Few,
@@ -221,6 +215,7 @@ fn word(
         let next = done(
             t,
             n,
+            tape,
             page,
             first,
             flags,
@@ -244,7 +239,9 @@ fn new_line(n: &mut Numbers) {
 }
 
 fn inside(n: &mut Numbers, c: u8) {
-    if !is_named(n[place::TAG]) {
+    if n[place::TAG] == 0 {
+        begin(n, c);
+    } else if !is_named(n[place::TAG]) {
         letter(n, c);
     }
 }
@@ -253,6 +250,7 @@ fn character(
     t: Target,
     c: u8,
     n: &mut Numbers,
+    tape: &mut Tape,
     page: &mut Page,
     first: &mut Few,
     flags: &mut Few,
@@ -261,25 +259,11 @@ fn character(
     counts: &mut Few,
     expected: &mut Expected,
 ) -> Target {
-    match c {
-        b'\n' => {
-            let next = word(
-                t,
-                n,
-                page,
-                first,
-                flags,
-                array,
-                registers,
-                counts,
-                expected,
-            );
-            new_line(n);
-            next
-        }
-        b' ' => word(
+    if (c == b' ') | (c == b'\n') {
+        let next = word(
             t,
             n,
+            tape,
             page,
             first,
             flags,
@@ -287,30 +271,20 @@ fn character(
             registers,
             counts,
             expected,
-        ),
-        _ => {
-            if n[place::TAG] == 0 {
-                begin(
-                    n,
-                    c,
-                    page,
-                    first,
-                    flags,
-                    array,
-                    registers,
-                    counts,
-                    expected,
-                );
-            } else {
-                inside(n, c);
-            }
-            t
+        );
+        if c == b'\n' {
+            new_line(n);
         }
+        next
+    } else {
+        inside(n, c);
+        t
     }
 }
 
 // The first `size` bytes of the text.
 fn table(text: &Text, size: usize, n: &mut Numbers) {
+    let mut tape = [0xeeu8; 128];
     let mut page = [0u8; 257];
     let mut first = [0u8; 65];
     let mut flags = [0u8; 65];
@@ -325,6 +299,7 @@ fn table(text: &Text, size: usize, n: &mut Numbers) {
             t,
             byte(get(text, i)),
             n,
+            &mut tape,
             &mut page,
             &mut first,
             &mut flags,
@@ -342,11 +317,13 @@ fn summary(n: &Numbers) {
     labelled(b"\ncells ", n[place::CELLS]);
     labelled(b"\ncases ", n[place::CASES]);
     labelled(b"\npower-ons compared ", n[place::POWERS]);
+    labelled(b"\nbyte traces compared ", n[place::RUNS]);
     labelled(b"\nreplies compared ", n[place::REPLIES]);
     labelled(
-        b"\nbytes of array, registers and counts compared ",
+        b"\nbytes of array, registers, counts and reply rooms compared ",
         n[place::BYTES],
     );
+    labelled(b"\nrefused cells found to change no byte ", n[place::KEPT]);
     labelled(
         b"\nexpectations wrong on purpose and found so ",
         n[place::FOUND],
@@ -371,7 +348,7 @@ fn read(text: &mut Text) -> usize {
 
 fn main() {
     let mut text = [0u8; 524288];
-    let mut n = [0usize; 26];
+    let mut n = [0usize; 29];
     n[place::LINE] = 1;
     new_word(&mut n);
     let size = read(&mut text);

@@ -2,6 +2,7 @@
 use crate::compared::buffer_compared;
 use crate::compared::compared;
 use crate::compared::counted;
+use crate::compared::differing;
 use crate::numbers::Array;
 use crate::numbers::COUNTS_AT;
 use crate::numbers::Expected;
@@ -9,7 +10,9 @@ use crate::numbers::Few;
 use crate::numbers::Numbers;
 use crate::numbers::Page;
 use crate::numbers::REGISTERS_AT;
+use crate::numbers::ROOM_AT;
 use crate::numbers::Registers;
+use crate::numbers::Tape;
 use crate::numbers::add;
 use crate::numbers::byte;
 use crate::numbers::count;
@@ -29,6 +32,9 @@ use target::Target;
 use target::picks::pick_number;
 use target::reply_first;
 use target::reply_second;
+use trace::Ran;
+use trace::run;
+use trace::run_number;
 
 fn lent_step(
     t: Target,
@@ -170,16 +176,7 @@ pub fn events(
     let mut last = t;
     let mut i: usize = 0;
     while i < times {
-        last = one_event(
-            last,
-            n,
-            i,
-            page,
-            flags,
-            array,
-            registers,
-            counts,
-        );
+        last = one_event(last, n, i, page, flags, array, registers, counts);
         i += 1;
     }
     last
@@ -215,6 +212,29 @@ fn tried(
     compared(n, place::REPLIES, b", reply ", 2, due, answer_of(q));
 }
 
+// A refused event changes no lent byte: all that changes one does so "when it is accepted".
+fn unchanged(
+    n: &mut Numbers,
+    array: &Array,
+    registers: &Registers,
+    counts: &Few,
+    array_after: &Array,
+    registers_after: &Registers,
+    counts_after: &Few,
+) {
+    let a = n[place::ARRAY_LEN];
+    let r = n[place::REGISTERS_LEN];
+    let c = n[place::COUNTS_LEN];
+    let m = add(
+        differing(array, array_after, a),
+        add(
+            differing(registers, registers_after, r),
+            differing(counts, counts_after, c),
+        ),
+    );
+    compared(n, place::KEPT, b", bytes changed ", 0, 0, m);
+}
+
 pub fn cell(
     t: Target,
     n: &mut Numbers,
@@ -229,6 +249,9 @@ pub fn cell(
     let mut c = *counts;
     counted(n, place::CELLS);
     tried(t, n, page, flags, &mut a, &mut r, &mut c);
+    if n[place::SECOND] / 256 == 2 {
+        unchanged(n, array, registers, counts, &a, &r, &c);
+    }
 }
 
 // All three buffers.
@@ -245,4 +268,57 @@ pub fn buffers_compared(
     buffer_compared(n, b", array byte ", expected, 0, a, array);
     buffer_compared(n, b", register byte ", expected, REGISTERS_AT, r, registers);
     buffer_compared(n, b", count ", expected, COUNTS_AT, c, counts);
+}
+
+fn lent_run(
+    t: Target,
+    n: &Numbers,
+    tape: &[u8],
+    room: &mut [u8],
+    page: &[u8],
+    array: &mut [u8],
+    registers: &mut [u8],
+    counts: &mut [u8],
+    flags: &[u8],
+) -> Ran {
+    let k = count(n[place::TRACE_LEN], tape);
+    let m = count(n[place::FIRST], room);
+    let p = count(n[place::PAGE_LEN], page);
+    let a = count(n[place::ARRAY_LEN], array);
+    let r = count(n[place::REGISTERS_LEN], registers);
+    let c = count(n[place::COUNTS_LEN], counts);
+    let f = count(n[place::FLAGS_LEN], flags);
+    run(
+        t,
+        &tape[..k],
+        &mut room[..m],
+        &page[..p],
+        &mut array[..a],
+        &mut registers[..r],
+        &mut counts[..c],
+        &flags[..f],
+    )
+}
+
+// A byte trace, its answer as a whole and every byte of its reply room.
+pub fn traced(
+    t: Target,
+    n: &mut Numbers,
+    tape: &mut Tape,
+    page: &Page,
+    flags: &Few,
+    array: &mut Array,
+    registers: &mut Registers,
+    counts: &mut Few,
+) -> Target {
+    let mut room = [0xeeu8; 64];
+    let ran = lent_run(t, n, tape, &mut room, page, array, registers, counts, flags);
+    let answer = ran.answer;
+    let got = run_number(answer) as usize;
+    let due = n[place::SECOND];
+    compared(n, place::RUNS, b", run ", 0, due, got);
+    buffer_compared(n, b", reply byte ", tape, ROOM_AT, 64, &room);
+    n[place::TRACE_LEN] = 0;
+    *tape = [0xee; 128];
+    ran.target
 }

@@ -6,7 +6,7 @@ ghost use Rattle.io.specs.Counts.{Counts};
 pub type Text = [u8; 524288];
 
 // By the places of `place`.
-pub type Numbers = [usize; 26];
+pub type Numbers = [usize; 29];
 
 // A parameter page; an array; registers; counts or flags. Each has room for one more than the largest part has.
 pub type Page = [u8; 257];
@@ -23,6 +23,11 @@ pub type Expected = [u8; 34915];
 pub const REGISTERS_AT: usize = 33793;
 
 pub const COUNTS_AT: usize = 34850;
+
+// A trace, and what its reply room is to hold.
+pub type Tape = [u8; 128];
+
+pub const ROOM_AT: usize = 64;
 
 fn wide(b: u8) -> usize {
     b as usize
@@ -53,10 +58,6 @@ pub fn count(n: usize, s: &[u8]) -> usize
     if n < s.len() { n } else { s.len() }
 }
 
-pub fn number(n: &Numbers, i: usize) -> usize {
-    if i < place::NUMBERS { n[i] } else { 0 }
-}
-
 pub fn keep(n: &mut Numbers, i: usize, v: usize) {
     if i < place::NUMBERS {
         n[i] = v;
@@ -64,8 +65,9 @@ pub fn keep(n: &mut Numbers, i: usize, v: usize) {
 }
 
 pub fn one_more(n: &mut Numbers, i: usize) {
-    let v = add(number(n, i), 1);
-    keep(n, i, v);
+    if i < place::NUMBERS {
+        n[i] = add(n[i], 1);
+    }
 }
 
 // `times` bytes of what is expected, from place `at` on.

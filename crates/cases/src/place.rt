@@ -36,21 +36,27 @@ pub const COUNTS_LEN: usize = 15;
 pub const FLAGS_LEN: usize = 16;
 
 pub const DEVICE: usize = 17;
+// bytes of the trace so far
+pub const TRACE_LEN: usize = 18;
 // what was done and compared
-pub const STATES: usize = 18;
+pub const STATES: usize = 19;
 
-pub const CELLS: usize = 19;
+pub const CELLS: usize = 20;
 
-pub const CASES: usize = 20;
+pub const CASES: usize = 21;
 
-pub const POWERS: usize = 21;
+pub const POWERS: usize = 22;
 
-pub const REPLIES: usize = 22;
+pub const RUNS: usize = 23;
 
-pub const BYTES: usize = 23;
+pub const REPLIES: usize = 24;
 
-pub const FOUND: usize = 24;
+pub const BYTES: usize = 25;
 
-pub const MISMATCHES: usize = 25;
+pub const KEPT: usize = 26;
 
-pub const NUMBERS: usize = 26;
+pub const FOUND: usize = 27;
+
+pub const MISMATCHES: usize = 28;
+
+pub const NUMBERS: usize = 29;

@@ -6,10 +6,10 @@ use Rattle.cases.proofs.table.Statement.{statement}
 use Rattle.cases.proofs.table.Tie as tie
 
 abbrev Inv-loop : tie.InvT-loop
-Inv-loop text size n₀ page₀ first₀ flags₀ array₀ registers₀ counts₀ expected₀ t₀ i₀ n page first flags array registers counts expected t i = Unit {0}
+Inv-loop text size n₀ tape₀ page₀ first₀ flags₀ array₀ registers₀ counts₀ expected₀ t₀ i₀ n tape page first flags array registers counts expected t i = Unit {0}
 
 abbrev μ-loop : tie.MeasureT-loop
-μ-loop text size n₀ page₀ first₀ flags₀ array₀ registers₀ counts₀ expected₀ t₀ i₀ n page first flags array registers counts expected t i = size - i
+μ-loop text size n₀ tape₀ page₀ first₀ flags₀ array₀ registers₀ counts₀ expected₀ t₀ i₀ n tape page first flags array registers counts expected t i = size - i
 
 unpowered-requires : tie.Need-unpowered-requires Inv-loop μ-loop
 unpowered-requires c κs = tt
@@ -27,10 +27,10 @@ character-requires : tie.Need-character-requires Inv-loop μ-loop
 character-requires c κs = tt
 
 add-i : tie.Need-add-i Inv-loop μ-loop
-add-i c = omega (arith, c .before .before .before .before .before .before .before .before .before .before .before .before .before .before .before .fits)
+add-i c = omega (arith, c .before .before .before .before .before .before .before .before .before .before .before .before .before .before .before .before .fits, c .before .before .before .before .before .before .before .before .before .before .before .before .before .loop-test)
 
 loop-less : tie.Need-loop-less Inv-loop μ-loop
-loop-less c = omega arith
+loop-less c = omega (arith, c .before .before .before .before .before .before .before .before .before .before .before .before .before .before .before .before .fits, c .before .before .before .before .before .before .before .before .before .before .before .before .before .loop-test)
 
 loop-again : tie.Need-loop-again Inv-loop μ-loop
 loop-again c = tt
