@@ -6,7 +6,7 @@ ghost use Rattle.io.specs.Counts.{Counts};
 pub type Text = [u8; 524288];
 
 // By the places of `place`.
-pub type Numbers = [usize; 29];
+pub type Numbers = [usize; 30];
 
 // A parameter page; an array; registers; counts or flags. Each has room for one more than the largest part has.
 pub type Page = [u8; 257];

@@ -24,39 +24,41 @@ pub const GIVEN: usize = 9;
 pub const ANY: usize = 10;
 // 1: the case's expectations are wrong on purpose
 pub const WRONG: usize = 11;
+// the letter of a word that is whole, else 0
+pub const DUE: usize = 12;
 // lengths to lend, and the device ID, in the order of an L line
-pub const PAGE_LEN: usize = 12;
+pub const PAGE_LEN: usize = 13;
 
-pub const ARRAY_LEN: usize = 13;
+pub const ARRAY_LEN: usize = 14;
 
-pub const REGISTERS_LEN: usize = 14;
+pub const REGISTERS_LEN: usize = 15;
 
-pub const COUNTS_LEN: usize = 15;
+pub const COUNTS_LEN: usize = 16;
 
-pub const FLAGS_LEN: usize = 16;
+pub const FLAGS_LEN: usize = 17;
 
-pub const DEVICE: usize = 17;
+pub const DEVICE: usize = 18;
 // bytes of the trace so far
-pub const TRACE_LEN: usize = 18;
+pub const TRACE_LEN: usize = 19;
 // what was done and compared
-pub const STATES: usize = 19;
+pub const STATES: usize = 20;
 
-pub const CELLS: usize = 20;
+pub const CELLS: usize = 21;
 
-pub const CASES: usize = 21;
+pub const CASES: usize = 22;
 
-pub const POWERS: usize = 22;
+pub const POWERS: usize = 23;
 
-pub const RUNS: usize = 23;
+pub const RUNS: usize = 24;
 
-pub const REPLIES: usize = 24;
+pub const REPLIES: usize = 25;
 
-pub const BYTES: usize = 25;
+pub const BYTES: usize = 26;
 
-pub const KEPT: usize = 26;
+pub const KEPT: usize = 27;
 
-pub const FOUND: usize = 27;
+pub const FOUND: usize = 28;
 
-pub const MISMATCHES: usize = 28;
+pub const MISMATCHES: usize = 29;
 
-pub const NUMBERS: usize = 29;
+pub const NUMBERS: usize = 30;

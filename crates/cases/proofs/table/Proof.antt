@@ -23,14 +23,29 @@ get-requires c κs = tt
 byte-requires : tie.Need-byte-requires Inv-loop μ-loop
 byte-requires c κs = tt
 
-character-requires : tie.Need-character-requires Inv-loop μ-loop
-character-requires c κs = tt
+take-requires : tie.Need-take-requires Inv-loop μ-loop
+take-requires c κs = tt
+
+noted-requires : tie.Need-noted-requires Inv-loop μ-loop
+noted-requires c κs = tt
+
+asked-requires : tie.Need-asked-requires Inv-loop μ-loop
+asked-requires c κs = tt
+
+go-on-requires : tie.Need-go-on-requires Inv-loop μ-loop
+go-on-requires c κs = tt
 
 add-i : tie.Need-add-i Inv-loop μ-loop
-add-i c = omega (arith, c .before .before .before .before .before .before .before .before .before .before .before .before .before .before .before .before .fits, c .before .before .before .before .before .before .before .before .before .before .before .before .before .loop-test)
+add-i c =
+    let c24 = c .before .before .before .before .before .before .before .before .before .before .before .before .before .before .before .before .before .before .before .before .before .before .before .before in
+    let c27 = c24 .before .before .before in
+    omega (arith, c24 .loop-test, c27 .fits)
 
 loop-less : tie.Need-loop-less Inv-loop μ-loop
-loop-less c = omega (arith, c .before .before .before .before .before .before .before .before .before .before .before .before .before .before .before .before .fits, c .before .before .before .before .before .before .before .before .before .before .before .before .before .loop-test)
+loop-less c =
+    let c24 = c .before .before .before .before .before .before .before .before .before .before .before .before .before .before .before .before .before .before .before .before .before .before .before .before in
+    let c27 = c24 .before .before .before in
+    omega (arith, c24 .loop-test, c27 .fits)
 
 loop-again : tie.Need-loop-again Inv-loop μ-loop
 loop-again c = tt
@@ -48,7 +63,10 @@ table-spec =
     loop-holds
     get-requires
     byte-requires
-    character-requires
+    take-requires
+    noted-requires
+    asked-requires
+    go-on-requires
     add-i
     loop-less
     loop-again
