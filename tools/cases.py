@@ -1,5 +1,6 @@
 #!/usr/bin/env python3
-"""cases.py: writes crates/cases/data/table, the expectations that the program `cases` holds the model to.
+"""cases.py: writes crates/cases/data/table, the expectations that the program `cases` holds the model to; with --check, only says
+whether that file is what it would write.
 
 Every expectation below is written by hand from document 01's words (quoted or named beside the states); none is taken
 from the model, which this script neither calls nor reads, and no state is worked out by running anything. The script only
@@ -1228,7 +1229,11 @@ line('E', ['02', '03'])
 line('Y', ['4:10'])
 
 text = '\n'.join(OUT) + '\n'
-root = os.path.dirname(os.path.dirname(os.path.abspath(__file__)))
-with open(os.path.join(root, 'crates', 'cases', 'data', 'table'), 'w') as out:
+path = os.path.join(os.path.dirname(os.path.dirname(os.path.abspath(__file__))), 'crates', 'cases', 'data', 'table')
+if sys.argv[1:] == ['--check']:
+    with open(path) as stored:
+        sys.exit(0 if stored.read() == text else 'crates/cases/data/table is not what this script writes')
+with open(path, 'w') as out:
     out.write(text)
-print(len(text), 'bytes', len(OUT), 'lines,', len(STATES), 'states,', len(STATES) * (len(COMMANDS) + len(UNKNOWN) + len(ADDRESSES) + len(DATA) + 1 + len(FINISHES) + 2 + len(BAD)), 'cells', file=sys.stderr)
+each = len(COMMANDS) + len(UNKNOWN) + len(ADDRESSES) + len(DATA) + 1 + len(FINISHES) + 2 + len(BAD)
+print(len(text), 'bytes', len(OUT), 'lines,', len(STATES), 'states,', len(STATES) * each, 'cells', file=sys.stderr)

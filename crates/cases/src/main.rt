@@ -98,28 +98,9 @@ fn asked(
     let y = n[place::SECOND];
     match n[place::DUE] {
         // O
-        79 => power(
-            n,
-            x,
-            page,
-            first,
-            flags,
-            array,
-            registers,
-            counts,
-            expected,
-        ),
+        79 => power(n, x, page, first, flags, array, registers, counts, expected),
         // I
-        73 => events(
-            t,
-            n,
-            times,
-            page,
-            flags,
-            array,
-            registers,
-            counts,
-        ),
+        73 => events(t, n, times, page, flags, array, registers, counts),
         // X
         88 => {
             cell(t, n, page, flags, array, registers, counts);

@@ -28,11 +28,6 @@ fn keep_field(n: &mut Numbers) {
     one_more(n, place::FIELD);
 }
 
-fn keep_times(n: &mut Numbers) {
-    n[place::TIMES] = n[place::VALUE];
-    n[place::VALUE] = 0;
-}
-
 fn digit(n: &mut Numbers, v: u8) {
     n[place::VALUE] = n[place::VALUE] % 4096 * 16 + v as usize;
     n[place::GIVEN] = 1;
@@ -49,9 +44,12 @@ fn letter(n: &mut Numbers, c: u8) {
         b'0'..=b'9' => digit(n, c - b'0'),
         b'A'..=b'F' => digit(n, c - 55),
         b'x' => any_digit(n),
-        b'*' => keep_times(n),
+        b'*' => {
+            n[place::TIMES] = n[place::VALUE];
+            n[place::VALUE] = 0;
+        }
         b':' | b'=' | b'>' => keep_field(n),
-        _ => unreadable(n),
+        _ => unreadable(n, c),
     }
 }
 
@@ -75,7 +73,7 @@ fn begin(n: &mut Numbers, c: u8) {
         b'W' => n[place::WRONG] = 1,
         b'P' | b'Q' => n[place::GIVEN] = 1,
         b'#' | b'A' | b'C'..=b'G' | b'I' | b'K' | b'L' | b'O' | b'R' | b'V' | b'X' | b'Y' => {}
-        _ => unreadable(n),
+        _ => unreadable(n, c),
     }
 }
 
@@ -87,25 +85,17 @@ fn inside(n: &mut Numbers, c: u8) {
     }
 }
 
-fn end_word(n: &mut Numbers) {
-    if n[place::GIVEN] == 1 {
-        keep_field(n);
-        n[place::DUE] = n[place::TAG];
-    }
-}
-
 // One character. Where it ends a word, what the word says is due.
 pub fn take(n: &mut Numbers, c: u8) {
     match c {
-        b' ' | b'\n' => end_word(n),
+        b' ' | b'\n' => {
+            if n[place::GIVEN] == 1 {
+                keep_field(n);
+                n[place::DUE] = n[place::TAG];
+            }
+        }
         _ => inside(n, c),
     }
-}
-
-fn new_line(n: &mut Numbers) {
-    one_more(n, place::LINE);
-    n[place::WORD] = 0;
-    n[place::TAG] = 0;
 }
 
 // After the character, what was due has been done.
@@ -115,6 +105,8 @@ pub fn go_on(n: &mut Numbers, c: u8) {
         new_word(n);
     }
     if c == b'\n' {
-        new_line(n);
+        one_more(n, place::LINE);
+        n[place::WORD] = 0;
+        n[place::TAG] = 0;
     }
 }

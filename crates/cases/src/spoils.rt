@@ -90,24 +90,9 @@ fn sequence(field: usize, v: usize) -> Sequence {
     }
 }
 
-fn with_output(t: Target, output: Output) -> Target {
-    let decoder = Decoder {
-        sequence: Sequence::Idle,
-        output,
-    };
+fn held(t: Target, sequence: Sequence, output: Output) -> Target {
+    let decoder = Decoder { sequence, output };
     Target { decoder, ..t }
-}
-
-fn with_sequence(t: Target, sequence: Sequence) -> Target {
-    let decoder = Decoder {
-        sequence,
-        output: Output::Nothing,
-    };
-    Target { decoder, ..t }
-}
-
-fn with_geometry(t: Target, geometry: Geometry) -> Target {
-    Target { geometry, ..t }
 }
 
 // The record with number `field` set to `v`; the numbers are those of tools/cases.py.
@@ -118,10 +103,13 @@ pub fn spoiled(t: Target, field: usize, v: usize) -> Target {
             powered: v == 1,
             ..t
         },
-        1..=5 => with_geometry(t, sized(g, field, v)),
+        1..=5 => {
+            let geometry = sized(g, field, v);
+            Target { geometry, ..t }
+        }
         6 => Target { selected: v, ..t },
         7..=8 => marked(t, field, v),
-        16..=22 => with_output(t, output(field, v)),
-        _ => with_sequence(t, sequence(field, v)),
+        16..=22 => held(t, Sequence::Idle, output(field, v)),
+        _ => held(t, sequence(field, v), Output::Nothing),
     }
 }

@@ -20,8 +20,8 @@ get-requires c κs = tt
 get-requires-2 : tie.Need-get-requires-2 Inv-loop μ-loop
 get-requires-2 c κs = tt
 
-unlike-requires : tie.Need-unlike-requires Inv-loop μ-loop
-unlike-requires c κs = tt
+pick-number-requires : tie.Need-pick-number-requires Inv-loop μ-loop
+pick-number-requires c κs = tt
 
 add-requires : tie.Need-add-requires Inv-loop μ-loop
 add-requires c κs = tt
@@ -47,7 +47,7 @@ differing-spec =
     loop-holds
     get-requires
     get-requires-2
-    unlike-requires
+    pick-number-requires
     add-requires
     add-i
     loop-less
