@@ -1,5 +1,6 @@
 #!/usr/bin/env python3
-"""cases.py: writes crates/cases/data/table, the expectations that the program `cases` holds the model to.
+"""cases.py: writes crates/cases/data/table, the expectations that the program `cases` holds the model to; with --check, only says
+whether that file is what it would write.
 
 Every expectation below is written by hand from document 01's words (quoted or named beside the states); none is taken
 from the model, which this script neither calls nor reads, and no state is worked out by running anything. The script only
@@ -13,16 +14,21 @@ a refused bus cycle leaves no output (3; 2 before the first FFh); a bench refusa
 data out; FFh drops output (3); an accepted command or address leaves what its line says, 3 where that is nothing; finish
 and protect events keep the output.
 
-The file's lines, a letter and then words of hexadecimal numbers:
-  a b c  the standard events: commands; addresses and data; bench events and bad records
-  P  a part: everything lent is 00h      L  lengths of array, registers, counts and flags, and the device ID
-  G C F  bytes of the parameter page, of the counts, of the flags (place:value, or times*place:value)
-  O  power-on, and the answer (00h for accepted)
-  S  a state: power-on, FFh not yet sent  T  a case: the same
-  I  events (times*event=reply; with no reply, any that is no refusal)
-  1 2 3  the cells of the state for a, b and c: reply>reply of a data out after it (times*cell for equal ones in a row)
-  A V K  what the array, the registers, the counts are to hold from now on (place:value)     Q  they are compared
-Array byte i is i mod 251 at power-on; the registers hold 00h before it.
+The file's lines, a letter and then words of hexadecimal numbers; times* before a word is 'so often in a row':
+  #  a remark
+  P  a part, and its name: its page, counts and flags are 00h
+  L  lengths of parameter page, array, registers, counts and flags, and the device ID
+  G C F  bytes of the parameter page, of the counts, of the flags: place:value
+  S  a state, and its name     T  a case, and its name
+  W  a case whose expectations are wrong on purpose, each of which must be found
+  O  power-on, and the answer, 0 for accepted
+  I  events: event=reply, 01xx for any byte
+  X  cells: event=reply>reply of a data out after it, each tried from the state that the lines above led to
+  D  the bytes of a trace     E  what its reply room is to hold at its start; the rest stays EEh, as all 64 bytes are before
+  Y  the trace is run: room lent:answer, 0 for done
+  R  the record, with one of its numbers set: number:value (RECORD below)
+  A V K  what the array, the registers, the counts are to hold from now on: place:value     Q  they are compared
+Array byte i is i mod 251 at power-on, and the registers hold 00h before it; an accepted one "fills the registers with FFh".
 """
 import os
 import sys
@@ -168,9 +174,12 @@ def part(name, data, spare, pages, blocks, luns, programs=2, features=0x0102, op
         line('F', ['%X:%02X' % x for x in sorted(flags.items())])
 
 
-def lengths(array=0, registers=0, counts=0, flags=0):
-    more = [array, registers, counts, flags]
-    line('L', ['%X' % (n + m) for n, m in zip(PART['sizes'], more)] + ['%X' % PART['device']])
+def lengths(page=0, array=0, registers=0, counts=0, flags=0):
+    lent([256] + PART['sizes'], page, array, registers, counts, flags)
+
+
+def lent(sizes, *more):
+    line('L', ['%X' % n for n in map(sum, zip(sizes, more or [0] * 5))] + ['%X' % PART['device']])
 
 
 # Cells.
@@ -195,14 +204,16 @@ def folded(words):
     return out
 
 
-def cells(tag, pairs):
-    line(tag, folded(['%03X>%03X' % x for x in pairs]))
+def cells(events, pairs):
+    assert len(events) == len(pairs)
+    line('X', ['%s=%04X>%04X' % (e, *x) for e, x in zip(events, pairs)])
 
 
 def put(name, prefix, takes, firsts, address, data, out, then, works, shut, protect, finish, gone):
     line('S', [name])
+    line('O', ['0'])
     if prefix:
-        line('I', prefix)
+        line('I', [w if '=' in w else w + ('=01xx' if w.endswith('0300') else '=0000') for w in prefix])
     row1 = []
     for v in COMMANDS + UNKNOWN:
         if v == 0xFF:
@@ -215,12 +226,12 @@ def put(name, prefix, takes, firsts, address, data, out, then, works, shut, prot
             row1.append(pair(takes[v], no(3)))
         else:
             row1.append((no(3), no(3)))
-    cells('1', row1)
+    cells(c(*(COMMANDS + UNKNOWN)), row1)
     row2 = [pair(x, no(gone)) for x in spread(address, len(ADDRESSES)) + spread(data, len(DATA))]
-    cells('2', row2 + [(out, then)])
+    cells(a(*ADDRESSES) + i(*DATA) + o(), row2 + [(out, then)])
     row3 = [(ok, finish.get(l, out)) if l in works else (no(10), out) for l in FINISHES]
     row3 += [(no(11), out)] * 2 if shut or works else [(ok, protect[0]), (ok, protect[1])]
-    cells('3', row3 + [(no(12), out)] * len(BAD))
+    cells(f(*FINISHES) + p(0) + p(1) + BAD, row3 + [(no(12), out)] * len(BAD))
     STATES.append(name)
 
 
@@ -254,6 +265,11 @@ def only(first, rest=no(4)):
 # Cases.
 def case(name):
     line('T', [name])
+    line('O', ['0'])
+
+
+def power(answer):
+    line('O', ['%X' % answer])
 
 
 def run(*groups):
@@ -284,10 +300,6 @@ def at(place, *v):
 def times(n, place, v):
     return '%X*%X:%02X' % (n, place, v)
 
-
-line('a', c(*(COMMANDS + UNKNOWN)))
-line('b', a(*ADDRESSES) + i(*DATA) + o())
-line('c', f(*FINISHES) + p(0) + p(1) + BAD)
 
 # ---------------------------------------------------------------------------------------------------------------------
 # Part A: 16+0 bytes, 2 pages, 2 blocks, 2 LUNs. Page 1 bit, block 1 bit, the rest LUN: rows 0 to 3 are LUN 0, 4 to 7 LUN 1,
@@ -684,20 +696,62 @@ case('document 01, the whole case')
 line('I', ['00FF=0000', '0090=0000', '0120=0000', '0300=014F', '0300=014E', '0300=0146', '0300=0149', '0300=0208'])
 kept()
 
+
+def trace(records, room, replies, answer=0):
+    if records:
+        line('D', records.split())
+    if replies:
+        line('E', replies.split())
+    line('Y', ['%X:%X' % (room, answer)])
+    kept()
+
+
+WHOLE = '00 FF 00 90 01 20 03 00 03 00 03 00 03 00 03 00'
+WHOLE_OUT = '00 00 00 00 00 00 01 4F 01 4E 01 46 01 49 02 08'
+case('document 01, the whole case, as a byte trace')
+trace(WHOLE, 16, WHOLE_OUT)
+
+# "If the reply room is too short for all replies, the run is refused once with 16; room past the replies stays as it is." "An
+# odd last byte gets 02 0C, or 02 0D where 13 holds." Bad records "drop no sequence": the trace after it goes on.
+case('byte traces: reply room, odd last byte')
+trace(WHOLE, 15, '', 16)
+trace(WHOLE, 0, '', 16)
+trace('', 0, '')
+trace('03 00', 2, '02 02')
+trace(WHOLE, 64, WHOLE_OUT)
+trace(WHOLE, 17, WHOLE_OUT)
+trace('00 90 01', 3, '', 16)
+trace('00 90 01', 4, '00 00 02 0C')
+trace('01 20 03', 4, '00 00 02 0C')
+trace('03 00 00', 5, '01 4F 02 0C')
+trace('03 00 09 09 03', 6, '01 4E 02 0C 02 0C')
+trace('03', 1, '', 16)
+trace('03', 2, '02 0C')
+lengths(flags=-1)
+trace('03 00 03', 4, '02 0D 02 0D')
+trace('03 00 03', 3, '', 16)
+lengths()
+trace('03 00 03 00 03 00', 6, '01 46 01 49 02 08')
+lengths(flags=1)
+power(24)
+trace('00 FF 03', 4, '02 0D 02 0D')
+lengths()
+
 # (a) T1 array is 33,792 bytes; registers, counts and flags have "exactly these lengths" too. 24 is 18h.
+# "A refused power-on gives an unpowered target", and "13: target not powered".
 case('(a) the array of T1 is 33,792 bytes')
 assert PART['sizes'] == [33792, 1056, 64, 16]
-line('O', ['0'])
-for n in range(4):
-    lengths(*[-1 if k == n else 0 for k in range(4)])
-    line('O', ['18'])
-    run(refused(FF + c(0x70) + o() + f(0) + p(1) + BAD, 13))
-for n in range(1, 4):
-    lengths(*[1 if k == n else 0 for k in range(4)])
-    line('O', ['18'])
-    run(refused(FF + c(0x70) + o() + f(0) + p(1) + BAD, 13))
+EVERY = FF + c(0x70) + o() + f(0) + p(1) + BAD
+for more in (-1, 1):
+    for n in range(4):
+        lengths(0, *[more if k == n else 0 for k in range(4)])
+        power(24)
+        kept()
+        run(refused(EVERY, 13))
+        kept()
 lengths()
-line('O', ['0'])
+power(0)
+kept()
 run(FF)
 
 # (b) Row 55: LUN 1, block 5, page 3, array place 29,040. Programmed with 00h at its ends.
@@ -1003,8 +1057,183 @@ for n in range(3):
 run(refused(o(), 8) + refused(o(), 3))
 kept()
 
+# ---------------------------------------------------------------------------------------------------------------------
+# Rule 13, on A. "A lent buffer's length is not what the record's geometry gives"; the parameter bytes' "lent length stays 256";
+# at power-on that length is 20 (14h), the others 24. "A bench refusal changes nothing, neither record nor buffer, and drops no
+# sequence": with the right lengths lent again the sequence and the output go on where they were.
+case('13: a lent length one less, one more')
+run(FF + BOTH + c(0x05) + col(2) + c(0xE0) + given(0x42))
+registers(*at(0, *page_of(0)), *at(16, *page_of(4)))
+byte_out = 0x43
+for more in (-1, 1):
+    for n in range(5):
+        lengths(*[more if k == n else 0 for k in range(5)])
+        run(refused(EVERY, 13))
+        lengths()
+        kept()
+        run(given(byte_out))
+        byte_out += 1
+run(c(0x80) + col(2))
+registers(times(32, 0, 0xFF))
+for more in (-1, 1):
+    for n in range(5):
+        lengths(*[more if k == n else 0 for k in range(5)])
+        run(refused(a(0) + EVERY, 13))
+        lengths()
+run(row(0) + i(0x00) + c(0x10) + f(0))
+array(*at(2, 0x00))
+counts('0:01')
+registers(*at(2, 0x00))
+kept()
+for more in (-1, 1):
+    lengths(more)
+    power(20)
+    kept()
+    run(refused(EVERY, 13))
+lengths()
+power(0)
+kept()
+
+# "Or a number in the record, taken by itself, is one that no run with that geometry gives it". The record's numbers, as the
+# table's R words name them.
+RECORD = {
+    'powered': 0, 'P': 1, 'pages': 2, 'blocks': 3, 'LUNs': 4, 'programs': 5, 'selected': 6, 'LUN 2 works': 7, 'LUN 3 failed': 8,
+    # the output is the register of LUN 0 from a column on, that of a LUN from column 0 on, the parameter page, a LUN's status,
+    # IDs, the signature, the feature, each from a place on
+    'register column': 0x10, 'register LUN': 0x11, 'parameter place': 0x12, 'status LUN': 0x13, 'ID place': 0x14,
+    'signature place': 0x15, 'feature place': 0x16,
+    # the sequence is 00h, 06h, 05h or 60h with all its addresses, the other ones 0; 80h with its next byte's place, or row; 85h
+    # with a row and one address; EFh with so many bytes
+    '00h column': 0x20, '00h row': 0x21, '06h column': 0x22, '06h row': 0x23, '05h column': 0x24, '60h row': 0x25,
+    '80h place': 0x26, '80h row': 0x27, '85h row': 0x28, 'EFh bytes': 0x29,
+}
+
+
+def spoil(name, value, sizes=None):
+    line('#', ['%s: %d' % (name, value)])
+    power(0)
+    run(FF)
+    line('R', ['%X:%X' % (RECORD[name], value)])
+    if sizes:
+        lent([256] + sizes)
+
+
+def bad(name, value, sizes=None):
+    spoil(name, value, sizes)
+    run(refused(EVERY + c(0x30) + a(0) + i(0), 13))
+    if sizes:
+        lengths()
+    else:
+        kept()
+
+
+def fine(name, value, *words):
+    spoil(name, value)
+    run(*words)
+
+
+case('13: not powered, sizes outside the house limits')
+bad('powered', 0)
+fine('powered', 1, c(0x70) + given(0xE0))
+# Lengths are lent as the changed sizes would have them (array, registers, counts, flags), so that the limit alone refuses.
+bad('P', 15, [120, 30, 8, 4])
+bad('pages', 0, [0, 32, 0, 4])
+bad('blocks', 0, [0, 32, 0, 0])
+bad('LUNs', 0, [0, 0, 0, 0])
+bad('LUNs', 5, [320, 80, 20, 10])
+bad('programs', 0)
+bad('programs', 9)
+fine('programs', 1, program(5, 0, 0) + f(1) + c(0x70) + given(0xE1))
+fine('programs', 8, program(1, 0, 0) + f(0) + c(0x70) + given(0xE0))
+# And with the lengths that were lent before, a size within the limits is refused for them.
+for name in ('P', 'pages', 'blocks', 'LUNs'):
+    bad(name, 17 if name == 'P' else 1)
+    bad(name, 0xFFFF)
+
+case('13: LUNs')
+bad('selected', 2)
+bad('selected', 0xFFFF)
+fine('selected', 1, c(0x05) + col(0) + c(0xE0) + given(0xFF))
+bad('LUN 2 works', 1)
+bad('LUN 3 failed', 1)
+fine('LUN 2 works', 0, c(0x70) + given(0xE0))
+
+# An output that is used up stands one past its last byte; "8: data in or out past the end".
+case('13: output')
+bad('register column', 17)
+fine('register column', 16, refused(o(), 8))
+fine('register column', 15, given(0xFF) + refused(o(), 8))
+bad('register LUN', 2)
+fine('register LUN', 1, given(0xFF))
+bad('parameter place', 769)
+fine('parameter place', 768, refused(o(), 8))
+fine('parameter place', 767, given(PART['page'][255]))
+bad('status LUN', 2)
+fine('status LUN', 1, given(0xE0))
+bad('ID place', 3)
+fine('ID place', 2, refused(o(), 8))
+bad('signature place', 5)
+fine('signature place', 4, refused(o(), 8))
+bad('feature place', 5)
+fine('feature place', 4, refused(o(), 8))
+
+# A row or a column that was accepted is in range; the place of the next data byte may be P.
+case('13: sequences')
+for name in ('00h column', '06h column', '05h column'):
+    bad(name, 16)
+    fine(name, 15, c(0x30 if name[0:2] == '00' else 0xE0))
+for name in ('00h row', '06h row', '60h row', '80h row', '85h row'):
+    bad(name, 8)
+    bad(name, 0xFFFF)
+fine('00h row', 7, c(0x30) + f(1) + given(0x70))
+fine('06h row', 7, c(0xE0) + given(0xFF))
+fine('60h row', 7, c(0xD0) + f(1))
+fine('80h row', 7, i(0) + c(0x10) + f(1))
+fine('85h row', 7, a(0) + i(0) + c(0x10) + f(1))
+bad('80h place', 17)
+fine('80h place', 16, refused(i(0), 8))
+fine('80h place', 15, i(0) + refused(i(0), 8))
+bad('EFh bytes', 4)
+fine('EFh bytes', 3, i(0) + refused(i(0), 3))
+
+# H has 3 pages and 3 blocks: row 23h is page 3, 0Ch is block 3, 2Fh is LUN 2, block 3, page 3, and 30h is LUN 3.
+part('H: 16+1, 3 pages, 3 blocks, 3 LUNs', 16, 1, 3, 3, 3)
+case('13: rows whose fields are not full')
+for name in ('00h row', '80h row', '85h row'):
+    bad(name, 0x23)
+    bad(name, 0x0C)
+    bad(name, 0x30)
+bad('60h row', 0x0C)
+bad('60h row', 0x30)
+fine('60h row', 0x23, c(0xD0) + f(2))
+bad('06h row', 0x30)
+fine('06h row', 0x2F, c(0xE0) + given(0xFF))
+fine('00h row', 0x2A, c(0x30) + f(2) + given(0xBF))
+bad('LUN 3 failed', 1)
+fine('LUN 2 works', 1, look(0x2F) + given(0x80) + f(2) + given(0xE0))
+
+# ---------------------------------------------------------------------------------------------------------------------
+# Wrong on purpose, so that the program shows that it compares: eleven expectations here are wrong, of each kind at
+# least one.
+line('W', ['expectations that are wrong'])
+power(24)
+power(0)
+line('I', ['00FF=0203', '0070=0000', '0300=01E1', '0080=01xx'])
+cells(c(0xFF) + c(0x05) + a(0x00), [(no(3), no(3)), (no(3), ok), (ok, no(3))])
+array(*at(17, 18))
+registers(*at(3, 0x00))
+counts('1:01')
+kept()
+line('D', ['00', '33'])
+line('E', ['02', '03'])
+line('Y', ['4:10'])
+
 text = '\n'.join(OUT) + '\n'
-root = os.path.dirname(os.path.dirname(os.path.abspath(__file__)))
-with open(os.path.join(root, 'crates', 'cases', 'data', 'table'), 'w') as out:
+path = os.path.join(os.path.dirname(os.path.dirname(os.path.abspath(__file__))), 'crates', 'cases', 'data', 'table')
+if sys.argv[1:] == ['--check']:
+    with open(path) as stored:
+        sys.exit(0 if stored.read() == text else 'crates/cases/data/table is not what this script writes')
+with open(path, 'w') as out:
     out.write(text)
-print(len(text), 'bytes', len(OUT), 'lines,', len(STATES), 'states,', len(STATES) * (len(COMMANDS) + len(UNKNOWN) + len(ADDRESSES) + len(DATA) + 1 + len(FINISHES) + 2 + len(BAD)), 'cells', file=sys.stderr)
+each = len(COMMANDS) + len(UNKNOWN) + len(ADDRESSES) + len(DATA) + 1 + len(FINISHES) + 2 + len(BAD)
+print(len(text), 'bytes', len(OUT), 'lines,', len(STATES), 'states,', len(STATES) * each, 'cells', file=sys.stderr)
