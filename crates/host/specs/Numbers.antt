@@ -1,0 +1,129 @@
+-- The record's parts as plain numbers, and back.
+use Prim.Native.Nat.{ℕ}
+use mathlib.Core.Bool.{Bool, true, false, _&&_}
+use mathlib.Core.List.{List, [], _∷_}
+use lib.ListN.{getD}
+use lib.Dec.{eqb, leb}
+use Rattle.target.specs.Pick.{pick}
+use Rattle.target.specs.Place.{works, failed}
+use Rattle.target.specs.declared.Lun.{Lun}
+use Rattle.target.specs.declared.First.{First}
+use Rattle.target.specs.declared.First.the-variants as first
+use Rattle.target.specs.declared.Sequence.{Sequence}
+use Rattle.target.specs.declared.Sequence.the-variants.{Idle, Columns, Rows, Single, Due, Filling, Moving, Setting}
+use Rattle.target.specs.declared.Output.{Output}
+use Rattle.target.specs.declared.Output.the-variants as output
+use Rattle.host.specs.declared.numbers.Cycles.{Cycles}
+use Rattle.host.specs.declared.numbers.Place.{Place}
+
+-- a mark is 1 or 0
+abbrev pub markByte : Bool → ℕ
+markByte true = 1
+markByte false = 0
+
+abbrev pub isSet : ℕ → Bool
+isSet n = eqb n 1
+
+-- the first commands, in the order of their codes: 00h 05h 06h 60h 70h 78h 80h 90h ECh EEh EFh
+abbrev pub firstNumber : First → ℕ
+firstNumber first.Read = 0
+firstNumber first.Jump = 1
+firstNumber first.Fetch = 2
+firstNumber first.Erase = 3
+firstNumber first.Status = 4
+firstNumber first.Look = 5
+firstNumber first.Program = 6
+firstNumber first.Identify = 7
+firstNumber first.Parameters = 8
+firstNumber first.GetFeature = 9
+firstNumber first.SetFeature = 10
+
+abbrev pub firstOf : ℕ → First
+firstOf n =
+    pick (eqb n 1) first.Jump
+    (pick (eqb n 2) first.Fetch
+    (pick (eqb n 3) first.Erase
+    (pick (eqb n 4) first.Status
+    (pick (eqb n 5) first.Look
+    (pick (eqb n 6) first.Program
+    (pick (eqb n 7) first.Identify
+    (pick (eqb n 8) first.Parameters
+    (pick (eqb n 9) first.GetFeature
+    (pick (eqb n 10) first.SetFeature first.Read)))))))))
+
+-- the open sequence; what a sequence has not is 0
+abbrev pub cyclesOf : Sequence → Cycles
+cyclesOf Idle = record { kind = 0; first = 0; got = 0; low = 0; mid = 0; value = 0; column = 0; row = 0 }
+cyclesOf (Columns f got low) = record { kind = 1; first = firstNumber f; got = got; low = low; mid = 0; value = 0; column = 0; row = 0 }
+cyclesOf (Rows f c got low mid) = record { kind = 2; first = firstNumber f; got = got; low = low; mid = mid; value = 0; column = c .0; row = 0 }
+cyclesOf (Single f) = record { kind = 3; first = firstNumber f; got = 0; low = 0; mid = 0; value = 0; column = 0; row = 0 }
+cyclesOf (Due f c r) = record { kind = 4; first = firstNumber f; got = 0; low = 0; mid = 0; value = 0; column = c .0; row = r .0 }
+cyclesOf (Filling r at) = record { kind = 5; first = 0; got = 0; low = 0; mid = 0; value = 0; column = at .0; row = r .0 }
+cyclesOf (Moving r got low) = record { kind = 6; first = 0; got = got; low = low; mid = 0; value = 0; column = 0; row = r .0 }
+cyclesOf (Setting got value) = record { kind = 7; first = 0; got = got; low = 0; mid = 0; value = value; column = 0; row = 0 }
+
+-- back; a kind above 7 is read as no sequence, and then the numbers are not what it packs to
+abbrev pub sequenceOf : Cycles → Sequence
+sequenceOf c =
+    pick (eqb (c .kind) 1) (Columns (firstOf (c .first)) (c .got) (c .low))
+    (pick (eqb (c .kind) 2) (Rows (firstOf (c .first)) (record { 0 = c .column }) (c .got) (c .low) (c .mid))
+    (pick (eqb (c .kind) 3) (Single (firstOf (c .first)))
+    (pick (eqb (c .kind) 4) (Due (firstOf (c .first)) (record { 0 = c .column }) (record { 0 = c .row }))
+    (pick (eqb (c .kind) 5) (Filling (record { 0 = c .row }) (record { 0 = c .column }))
+    (pick (eqb (c .kind) 6) (Moving (record { 0 = c .row }) (c .got) (c .low))
+    (pick (eqb (c .kind) 7) (Setting (c .got) (c .value)) Idle))))))
+
+-- the output; what it has not is 0
+abbrev pub placeOf : Output → Place
+placeOf output.Nothing = record { kind = 0; lun = 0; at = 0 }
+placeOf (output.Register l c) = record { kind = 1; lun = l; at = c .0 }
+placeOf (output.Parameters at) = record { kind = 2; lun = 0; at = at }
+placeOf (output.Status l) = record { kind = 3; lun = l; at = 0 }
+placeOf (output.Ids at) = record { kind = 4; lun = 0; at = at }
+placeOf (output.Signature at) = record { kind = 5; lun = 0; at = at }
+placeOf (output.Feature at) = record { kind = 6; lun = 0; at = at }
+
+abbrev pub outputOf : Place → Output
+outputOf p =
+    pick (eqb (p .kind) 1) (output.Register (p .lun) (record { 0 = p .at }))
+    (pick (eqb (p .kind) 2) (output.Parameters (p .at))
+    (pick (eqb (p .kind) 3) (output.Status (p .lun))
+    (pick (eqb (p .kind) 4) (output.Ids (p .at))
+    (pick (eqb (p .kind) 5) (output.Signature (p .at))
+    (pick (eqb (p .kind) 6) (output.Feature (p .at)) output.Nothing)))))
+
+-- the marks of the four LUN records
+abbrev pub lunOf : ℕ → ℕ → Lun
+lunOf working fail = record { working = isSet working; fail = isSet fail }
+
+abbrev pub lunsOf : List ℕ → List ℕ → List Lun
+lunsOf w f =
+    lunOf (getD w 0 0) (getD f 0 0) ∷ lunOf (getD w 1 0) (getD f 1 0) ∷ lunOf (getD w 2 0) (getD f 2 0)
+    ∷ lunOf (getD w 3 0) (getD f 3 0) ∷ []
+
+abbrev pub workingOf : List Lun → List ℕ
+workingOf luns =
+    markByte (works luns 0) ∷ markByte (works luns 1) ∷ markByte (works luns 2) ∷ markByte (works luns 3) ∷ []
+
+abbrev pub failOf : List Lun → List ℕ
+failOf luns =
+    markByte (failed luns 0) ∷ markByte (failed luns 1) ∷ markByte (failed luns 2) ∷ markByte (failed luns 3) ∷ []
+
+-- the same numbers
+unfoldable pub sameCycles : Cycles → Cycles → Bool
+sameCycles a b =
+    eqb (a .kind) (b .kind)
+    && eqb (a .first) (b .first)
+    && eqb (a .got) (b .got)
+    && eqb (a .low) (b .low)
+    && eqb (a .mid) (b .mid)
+    && eqb (a .value) (b .value)
+    && eqb (a .column) (b .column)
+    && eqb (a .row) (b .row)
+
+unfoldable pub samePlace : Place → Place → Bool
+samePlace a b = eqb (a .kind) (b .kind) && eqb (a .lun) (b .lun) && eqb (a .at) (b .at)
+
+-- four bytes, each 0 or 1
+unfoldable pub fourMarks : List ℕ → Bool
+fourMarks m = leb (getD m 0 0) 1 && leb (getD m 1 0) 1 && leb (getD m 2 0) 1 && leb (getD m 3 0) 1

@@ -1,0 +1,347 @@
+// The record's parts as plain numbers, and back: marks, first commands, the open sequence, the output. All by value.
+use target::Column;
+use target::First;
+use target::Lun;
+use target::Luns;
+use target::Output;
+use target::Row;
+use target::Sequence;
+use target::picks::pick_output;
+use target::picks::pick_sequence;
+use target::place::failed;
+use target::place::works;
+ghost use mathlib.Core.Path.{_≡_};
+ghost use Rattle.target.specs.Pick.{pick};
+ghost use Rattle.host.specs.Numbers.{markByte, isSet, firstNumber, firstOf, sequenceOf, cyclesOf, outputOf, placeOf, lunOf, lunsOf, workingOf, failOf, sameCycles, samePlace, fourMarks};
+
+// The open sequence as numbers; what it has not is 0.
+pub struct Cycles {
+    pub kind: u8,
+    pub first: u8,
+    pub got: u8,
+    pub low: u8,
+    pub mid: u8,
+    pub value: u8,
+    pub column: usize,
+    pub row: usize,
+}
+
+// The output as numbers; what it has not is 0.
+pub struct Place {
+    pub kind: u8,
+    pub lun: usize,
+    pub at: usize,
+}
+
+// A mark as a byte.
+pub fn mark_byte(b: bool) -> u8
+    ensures { λ r. ⌜ r ≡ markByte b ⌝ }
+{
+    if b { 1 } else { 0 }
+}
+
+// A byte as a mark; what is neither 0 nor 1 never gets this far.
+pub fn is_set(n: u8) -> bool
+    ensures { λ r. ⌜ r ≡ isSet n ⌝ }
+{
+    n == 1
+}
+
+pub fn first_number(f: First) -> u8
+    ensures { λ r. ⌜ r ≡ firstNumber f ⌝ }
+{
+    match f {
+        First::Read => 0,
+        First::Jump => 1,
+        First::Fetch => 2,
+        First::Erase => 3,
+        First::Status => 4,
+        First::Look => 5,
+        First::Program => 6,
+        First::Identify => 7,
+        First::Parameters => 8,
+        First::GetFeature => 9,
+        First::SetFeature => 10,
+    }
+}
+
+fn pick_first(b: bool, x: First, y: First) -> First
+    ensures { λ r. ⌜ r ≡ pick b x y ⌝ }
+{
+    if b { x } else { y }
+}
+
+pub fn first_of(n: u8) -> First
+    ensures { λ r. ⌜ r ≡ firstOf n ⌝ }
+{
+    let f = pick_first(n == 10, First::SetFeature, First::Read);
+    let f = pick_first(n == 9, First::GetFeature, f);
+    let f = pick_first(n == 8, First::Parameters, f);
+    let f = pick_first(n == 7, First::Identify, f);
+    let f = pick_first(n == 6, First::Program, f);
+    let f = pick_first(n == 5, First::Look, f);
+    let f = pick_first(n == 4, First::Status, f);
+    let f = pick_first(n == 3, First::Erase, f);
+    let f = pick_first(n == 2, First::Fetch, f);
+    let f = pick_first(n == 1, First::Jump, f);
+    f
+}
+
+pub fn to_sequence(c: Cycles) -> Sequence
+    ensures { λ r. ⌜ r ≡ sequenceOf c ⌝ }
+{
+    let kind = c.kind;
+    let first = first_of(c.first);
+    let column = Column(c.column);
+    let row = Row(c.row);
+    let columns = Sequence::Columns {
+        first,
+        got: c.got,
+        low: c.low,
+    };
+    let rows = Sequence::Rows {
+        first,
+        column,
+        got: c.got,
+        low: c.low,
+        mid: c.mid,
+    };
+    let single = Sequence::Single { first };
+    let due = Sequence::Due { first, column, row };
+    let filling = Sequence::Filling { row, at: column };
+    let moving = Sequence::Moving {
+        row,
+        got: c.got,
+        low: c.low,
+    };
+    let setting = Sequence::Setting {
+        got: c.got,
+        value: c.value,
+    };
+    let s = pick_sequence(kind == 7, setting, Sequence::Idle);
+    let s = pick_sequence(kind == 6, moving, s);
+    let s = pick_sequence(kind == 5, filling, s);
+    let s = pick_sequence(kind == 4, due, s);
+    let s = pick_sequence(kind == 3, single, s);
+    let s = pick_sequence(kind == 2, rows, s);
+    pick_sequence(kind == 1, columns, s)
+}
+
+pub fn of_sequence(s: Sequence) -> Cycles
+    ensures { λ r. ⌜ r ≡ cyclesOf s ⌝ }
+{
+    match s {
+        Sequence::Idle => Cycles {
+            kind: 0,
+            first: 0,
+            got: 0,
+            low: 0,
+            mid: 0,
+            value: 0,
+            column: 0,
+            row: 0,
+        },
+        Sequence::Columns { first, got, low } => Cycles {
+            kind: 1,
+            first: first_number(first),
+            got,
+            low,
+            mid: 0,
+            value: 0,
+            column: 0,
+            row: 0,
+        },
+        Sequence::Rows {
+            first,
+            column,
+            got,
+            low,
+            mid,
+        } => Cycles {
+            kind: 2,
+            first: first_number(first),
+            got,
+            low,
+            mid,
+            value: 0,
+            column: column.0,
+            row: 0,
+        },
+        Sequence::Single { first } => Cycles {
+            kind: 3,
+            first: first_number(first),
+            got: 0,
+            low: 0,
+            mid: 0,
+            value: 0,
+            column: 0,
+            row: 0,
+        },
+        Sequence::Due { first, column, row } => Cycles {
+            kind: 4,
+            first: first_number(first),
+            got: 0,
+            low: 0,
+            mid: 0,
+            value: 0,
+            column: column.0,
+            row: row.0,
+        },
+        Sequence::Filling { row, at } => Cycles {
+            kind: 5,
+            first: 0,
+            got: 0,
+            low: 0,
+            mid: 0,
+            value: 0,
+            column: at.0,
+            row: row.0,
+        },
+        Sequence::Moving { row, got, low } => Cycles {
+            kind: 6,
+            first: 0,
+            got,
+            low,
+            mid: 0,
+            value: 0,
+            column: 0,
+            row: row.0,
+        },
+        Sequence::Setting { got, value } => Cycles {
+            kind: 7,
+            first: 0,
+            got,
+            low: 0,
+            mid: 0,
+            value,
+            column: 0,
+            row: 0,
+        },
+    }
+}
+
+pub fn to_output(p: Place) -> Output
+    ensures { λ r. ⌜ r ≡ outputOf p ⌝ }
+{
+    let kind = p.kind;
+    let column = Column(p.at);
+    let register = Output::Register { lun: p.lun, column };
+    let parameters = Output::Parameters { at: p.at };
+    let status = Output::Status { lun: p.lun };
+    let ids = Output::Ids { at: p.at };
+    let signature = Output::Signature { at: p.at };
+    let feature = Output::Feature { at: p.at };
+    let o = pick_output(kind == 6, feature, Output::Nothing);
+    let o = pick_output(kind == 5, signature, o);
+    let o = pick_output(kind == 4, ids, o);
+    let o = pick_output(kind == 3, status, o);
+    let o = pick_output(kind == 2, parameters, o);
+    pick_output(kind == 1, register, o)
+}
+
+pub fn of_output(o: Output) -> Place
+    ensures { λ r. ⌜ r ≡ placeOf o ⌝ }
+{
+    match o {
+        Output::Nothing => Place {
+            kind: 0,
+            lun: 0,
+            at: 0,
+        },
+        Output::Register { lun, column } => Place {
+            kind: 1,
+            lun,
+            at: column.0,
+        },
+        Output::Parameters { at } => Place {
+            kind: 2,
+            lun: 0,
+            at,
+        },
+        Output::Status { lun } => Place {
+            kind: 3,
+            lun,
+            at: 0,
+        },
+        Output::Ids { at } => Place {
+            kind: 4,
+            lun: 0,
+            at,
+        },
+        Output::Signature { at } => Place {
+            kind: 5,
+            lun: 0,
+            at,
+        },
+        Output::Feature { at } => Place {
+            kind: 6,
+            lun: 0,
+            at,
+        },
+    }
+}
+
+pub fn same_cycles(a: Cycles, b: Cycles) -> bool
+    ensures { λ r. ⌜ r ≡ sameCycles a b ⌝ }
+{
+    (a.kind == b.kind)
+        & (a.first == b.first)
+        & (a.got == b.got)
+        & (a.low == b.low)
+        & (a.mid == b.mid)
+        & (a.value == b.value)
+        & (a.column == b.column)
+        & (a.row == b.row)
+}
+
+pub fn same_place(a: Place, b: Place) -> bool
+    ensures { λ r. ⌜ r ≡ samePlace a b ⌝ }
+{
+    (a.kind == b.kind) & (a.lun == b.lun) & (a.at == b.at)
+}
+
+fn lun_of(working: u8, fail: u8) -> Lun
+    ensures { λ r. ⌜ r ≡ lunOf working fail ⌝ }
+{
+    Lun {
+        working: is_set(working),
+        fail: is_set(fail),
+    }
+}
+
+pub fn to_luns(working: [u8; 4], fail: [u8; 4]) -> Luns
+    ensures { λ r. ⌜ r ≡ lunsOf working fail ⌝ }
+{
+    let a = lun_of(working[0], fail[0]);
+    let b = lun_of(working[1], fail[1]);
+    let c = lun_of(working[2], fail[2]);
+    let d = lun_of(working[3], fail[3]);
+    [a, b, c, d]
+}
+
+pub fn of_working(luns: Luns) -> [u8; 4]
+    ensures { λ r. ⌜ r ≡ workingOf luns ⌝ }
+{
+    let a = mark_byte(works(luns, 0));
+    let b = mark_byte(works(luns, 1));
+    let c = mark_byte(works(luns, 2));
+    let d = mark_byte(works(luns, 3));
+    [a, b, c, d]
+}
+
+pub fn of_fail(luns: Luns) -> [u8; 4]
+    ensures { λ r. ⌜ r ≡ failOf luns ⌝ }
+{
+    let a = mark_byte(failed(luns, 0));
+    let b = mark_byte(failed(luns, 1));
+    let c = mark_byte(failed(luns, 2));
+    let d = mark_byte(failed(luns, 3));
+    [a, b, c, d]
+}
+
+// Four bytes, each 0 or 1.
+pub fn four_marks(m: [u8; 4]) -> bool
+    ensures { λ r. ⌜ r ≡ fourMarks m ⌝ }
+{
+    (m[0] <= 1) & (m[1] <= 1) & (m[2] <= 1) & (m[3] <= 1)
+}
