@@ -134,7 +134,7 @@ def check_exports(module, exported):
 
 def stores_of(body, size):
     """Each local of the record's size in a function: the set of (place, width) that is stored into it."""
-    locals_ = {n: set() for n in re.findall(r'(%\w+) = alloca \[%d x i8\]' % size, body)}
+    locals_ = {n: set() for n in re.findall(r'(%%\w+) = alloca \[%d x i8\]' % size, body)}
     places = {n: (n, 0) for n in locals_}
     for line in body.splitlines():
         step = re.search(r'(%\w+) = getelementptr i8, ptr (%\w+), i64 (\d+)', line)
