@@ -46,7 +46,7 @@ typedef struct pair {
     nib_part part;
     uint8_t page[NIB_PAGE_LENGTH];
     uint8_t *flags;
-    side proved, plain;
+    side proved, plain, libc;   /* the last for memcpy and memset alone */
 } pair;
 
 static void fresh(const pair *p, side *s)
@@ -78,6 +78,7 @@ static void open_pair(pair *p, const fields *f)
     p->flags = bytes(nib_flags_length(p->part), 0);
     fresh(p, &p->proved);
     fresh(p, &p->plain);
+    fresh(p, &p->libc);
     must(power(p, 1) == 0 && power(p, 0) == 0, "power-on");
 }
 
@@ -228,7 +229,7 @@ static void time_trace(const char *name, const fields *f, trace (*make)(const pa
 
 /* ---- Page work: single events, the middle of many, less the same event on a page of 16 bytes ---- */
 
-enum { TIMES = 601 };
+enum { TIMES = 2001 };
 
 static int rising(const void *a, const void *b)
 {
@@ -285,20 +286,27 @@ static double timed_bytes(const pair *p, enum work what, unsigned turn)
     size_t b = turn / p->part.pages % p->part.blocks, at = nib_page_start(p->part, 0, b, turn % p->part.pages);
     double start = now();
     switch (what) {
-    case FILL: memset(p->plain.registers, 0xFF, size); break;
-    case PROGRAM: memcpy(p->plain.array + at, p->plain.registers, size); break;
-    case READ: memcpy(p->plain.registers, p->plain.array + at, size); break;
-    default: memset(p->plain.array + b * block, 0xFF, block);
+    case FILL: memset(p->libc.registers, 0xFF, size); break;
+    case PROGRAM: memcpy(p->libc.array + at, p->libc.registers, size); break;
+    case READ: memcpy(p->libc.registers, p->libc.array + at, size); break;
+    default: memset(p->libc.array + b * block, 0xFF, block);
     }
     __asm__ volatile("" : : : "memory");
     return now() - start;
+}
+
+/* So that no program meets a page that is full. */
+static void forget_counts(pair *p)
+{
+    memset(p->proved.counts, 0, nib_counts_length(p->part));
+    memset(p->plain.counts, 0, nib_counts_length(p->part));
 }
 
 static void time_pages(const fields *f)
 {
     fields small = *f;
     pair large_part, small_part;
-    double cost = clock_cost(), t[TIMES];
+    double cost = clock_cost();
 
     small.data = 16;
     small.spare = 0;
@@ -309,20 +317,22 @@ static void time_pages(const fields *f)
         must(one(&small_part, proved, 0, 0xFF) == 0, "FFh");
     }
     for (enum work what = FILL; what < WORKS; what++) {
-        double whole[2], alone[2];
-        for (int proved = 0; proved < 2; proved++) {
-            for (unsigned i = 0; i < TIMES; i++)
-                t[i] = timed_work(&large_part, proved, what, i);
-            whole[proved] = middle(t, TIMES) - cost;
-            for (unsigned i = 0; i < TIMES; i++)
-                t[i] = timed_work(&small_part, proved, what, i);
-            alone[proved] = whole[proved] - (middle(t, TIMES) - cost);
+        static double t[5][TIMES];
+        double m[5];
+        /* by turns, so that what else runs on the machine falls on all of them alike */
+        for (unsigned i = 0; i < TIMES; i++) {
+            forget_counts(&large_part);
+            forget_counts(&small_part);
+            for (int proved = 0; proved < 2; proved++) {
+                t[proved][i] = timed_work(&large_part, proved, what, i);
+                t[2 + proved][i] = timed_work(&small_part, proved, what, i);
+            }
+            t[4][i] = timed_bytes(&large_part, what, i);
         }
-        for (unsigned i = 0; i < TIMES; i++)
-            t[i] = timed_bytes(&large_part, what, i);
+        for (unsigned k = 0; k < 5; k++)
+            m[k] = middle(t[k], TIMES) - cost;
         printf("page %s bytes %zu proved %.1f proved-alone %.1f plain %.1f plain-alone %.1f libc %.1f\n", work_names[what],
-               large_part.part.page * (what == ERASE ? large_part.part.pages : 1), whole[1], alone[1], whole[0], alone[0],
-               middle(t, TIMES) - cost);
+               large_part.part.page * (what == ERASE ? large_part.part.pages : 1), m[1], m[1] - m[3], m[0], m[0] - m[2], m[4]);
     }
     must(memcmp(small_part.proved.array, small_part.plain.array, nib_array_length(small_part.part)) == 0, "the arrays differ");
 }
