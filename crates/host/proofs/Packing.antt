@@ -1,0 +1,291 @@
+-- Packing and unpacking undo each other, and what can't be unpacked is refused 13 and stays as it is.
+--     packed-back      what is packed unpacks to itself
+--     packed-good      what is packed can be unpacked
+--     image-back       what can be unpacked packs back to itself
+--     kept-image       taken out and put back, a record is as it was
+--     kept-event       an event that 13 refuses changes no number of the record and no lent byte
+--     bad-event        on numbers that no record packs to every event is refused 13
+-- A record has four LUN records, and the numbers four marks of each kind: the types of the code say so.
+-- Assumes nothing.
+use mathlib.Core.Path.{_≡_, refl, sym, ap, _∙_}
+use mathlib.Core.Bool.{Bool, true, false, _&&_}
+use mathlib.Core.List.{List, [], _∷_}
+use Prim.Native.Nat.{ℕ, _≤_, _<_}
+use native.Mathlib.Omega.{arith}
+use lib.ListN.{length, getD}
+use lib.Dec.{eqb, leb}
+use borrow.Author.Tests.{eqb-true, eqb-false, leb-true, le-leb, eq-eqb}
+use Rattle.target.proofs.Both.{both, both3, both4}
+use Rattle.target.specs.Pick.{pick}
+use Rattle.target.specs.Place.{ready, works, failed}
+use Rattle.target.specs.declared.Lun.{Lun}
+use Rattle.target.specs.declared.First.{First}
+use Rattle.target.specs.declared.First.the-variants as first
+use Rattle.target.specs.declared.Sequence.{Sequence}
+use Rattle.target.specs.declared.Sequence.the-variants.{Idle, Columns, Rows, Single, Due, Filling, Moving, Setting}
+use Rattle.target.specs.declared.Output.{Output}
+use Rattle.target.specs.declared.Output.the-variants as output
+use Rattle.target.specs.declared.Target.{Target}
+use Rattle.target.specs.declared.Reply.the-variants as reply
+use Rattle.target.specs.declared.Refusal.the-variants as refusal
+use Rattle.power.specs.Power.{unpowered}
+use Rattle.bench.specs.Usable.{recordSound, usable}
+use Rattle.bench.specs.Step.{Buffers, Outcome, steady, stepOf}
+use Rattle.host.specs.declared.numbers.Cycles.{Cycles}
+use Rattle.host.specs.declared.numbers.Place.{Place}
+use Rattle.host.specs.declared.Image.{Image}
+use Rattle.host.specs.Numbers.{markByte, isSet, firstNumber, firstOf, sequenceOf, cyclesOf, outputOf, placeOf, lunsOf, workingOf, failOf, sameCycles, samePlace, fourMarks}
+use Rattle.host.specs.Image.{cyclesIn, placeIn, unpacked, imageFrom, packed, marksGood, good, taken, putBack, replyNumber, HostEvent, evented, eventOn}
+
+mark-back : (b : Bool) → isSet (markByte b) ≡ b
+mark-back true = refl
+mark-back false = refl
+
+mark-small : (b : Bool) → leb (markByte b) 1 ≡ true
+mark-small true = refl
+mark-small false = refl
+
+first-back : (f : First) → firstOf (firstNumber f) ≡ f
+first-back first.Read = refl
+first-back first.Jump = refl
+first-back first.Fetch = refl
+first-back first.Erase = refl
+first-back first.Status = refl
+first-back first.Look = refl
+first-back first.Program = refl
+first-back first.Identify = refl
+first-back first.Parameters = refl
+first-back first.GetFeature = refl
+first-back first.SetFeature = refl
+
+sequence-back : (s : Sequence) → sequenceOf (cyclesOf s) ≡ s
+sequence-back Idle = refl
+sequence-back (Columns f got low) = ap (λ (x : First). Columns x got low) (first-back f)
+sequence-back (Rows f c got low mid) = ap (λ (x : First). Rows x c got low mid) (first-back f)
+sequence-back (Single f) = ap Single (first-back f)
+sequence-back (Due f c r) = ap (λ (x : First). Due x c r) (first-back f)
+sequence-back (Filling r at) = refl
+sequence-back (Moving r got low) = refl
+sequence-back (Setting got value) = refl
+
+output-back : (x : Output) → outputOf (placeOf x) ≡ x
+output-back output.Nothing = refl
+output-back (output.Register l c) = refl
+output-back (output.Parameters at) = refl
+output-back (output.Status l) = refl
+output-back (output.Ids at) = refl
+output-back (output.Signature at) = refl
+output-back (output.Feature at) = refl
+
+-- a list of four is its four elements
+four : {X : Type 0} (x : X) (xs : List X) → length xs ≡ 4 → getD xs 0 x ∷ getD xs 1 x ∷ getD xs 2 x ∷ getD xs 3 x ∷ [] ≡ xs
+four x [] h = absurd (omega arith)
+four x (a ∷ []) h = absurd (omega arith)
+four x (a ∷ b ∷ []) h = absurd (omega arith)
+four x (a ∷ b ∷ c ∷ []) h = absurd (omega arith)
+four x (a ∷ b ∷ c ∷ d ∷ []) h = refl
+four x (a ∷ b ∷ c ∷ d ∷ e ∷ xs) h = absurd (omega arith)
+
+luns-back : (ls : List Lun) → length ls ≡ 4 → lunsOf (workingOf ls) (failOf ls) ≡ ls
+luns-back ls h =
+    (λ j.
+    record { working = mark-back (works ls 0) j; fail = mark-back (failed ls 0) j }
+    ∷ record { working = mark-back (works ls 1) j; fail = mark-back (failed ls 1) j }
+    ∷ record { working = mark-back (works ls 2) j; fail = mark-back (failed ls 2) j }
+    ∷ record { working = mark-back (works ls 3) j; fail = mark-back (failed ls 3) j }
+    ∷ [])
+    ∙ four ready ls h
+
+-- what is packed unpacks to itself
+pub packed-back : (t : Target) → length (t .luns) ≡ 4 → unpacked (packed t) ≡ t
+unfolding unpacked packed cyclesIn placeIn
+packed-back t h = λ j. record {
+  powered = mark-back (t .powered) j;
+  geometry = t .geometry;
+  options = record {
+    look = mark-back (t .options .look) j;
+    fetch = mark-back (t .options .fetch) j;
+    features = mark-back (t .options .features) j;
+    clear = mark-back (t .options .clear) j;
+  };
+  ids = t .ids;
+  high = mark-back (t .high) j;
+  clear = mark-back (t .clear) j;
+  seen = mark-back (t .seen) j;
+  selected = t .selected;
+  luns = luns-back (t .luns) h j;
+  decoder = record { sequence = sequence-back (t .decoder .sequence) j; output = output-back (t .decoder .output) j };
+}
+
+-- tests that hold, put together
+and : {a b : Bool} → a ≡ true → b ≡ true → (a && b) ≡ true
+and {a} {b} p q = rw (p, q)
+
+self : (n : ℕ) → eqb n n ≡ true
+self n = eq-eqb n n refl
+
+cycles-self : (c : Cycles) → sameCycles c c ≡ true
+unfolding sameCycles
+cycles-self c =
+    and (and (and (and (and (and (and (self (c .kind)) (self (c .first))) (self (c .got))) (self (c .low))) (self (c .mid))) (self (c .value))) (self (c .column))) (self (c .row))
+
+place-self : (p : Place) → samePlace p p ≡ true
+unfolding samePlace
+place-self p = and (and (self (p .kind)) (self (p .lun))) (self (p .at))
+
+working-small : (ls : List Lun) → fourMarks (workingOf ls) ≡ true
+unfolding fourMarks
+working-small ls = and (and (and (mark-small (works ls 0)) (mark-small (works ls 1))) (mark-small (works ls 2))) (mark-small (works ls 3))
+
+fail-small : (ls : List Lun) → fourMarks (failOf ls) ≡ true
+unfolding fourMarks
+fail-small ls = and (and (and (mark-small (failed ls 0)) (mark-small (failed ls 1))) (mark-small (failed ls 2))) (mark-small (failed ls 3))
+
+marks-small : (t : Target) → marksGood (packed t) ≡ true
+unfolding marksGood packed
+marks-small t =
+    and (and (and (and (and (and (and (and (and
+    (mark-small (t .powered)) (mark-small (t .options .look))) (mark-small (t .options .fetch))) (mark-small (t .options .features)))
+    (mark-small (t .options .clear))) (mark-small (t .high))) (mark-small (t .clear))) (mark-small (t .seen)))
+    (working-small (t .luns))) (fail-small (t .luns))
+
+packed-cycles : (t : Target) → cyclesIn (packed t) ≡ cyclesOf (t .decoder .sequence)
+unfolding cyclesIn packed
+packed-cycles t = refl
+
+packed-place : (t : Target) → placeIn (packed t) ≡ placeOf (t .decoder .output)
+unfolding placeIn packed
+packed-place t = refl
+
+-- what is packed can be unpacked
+pub packed-good : (t : Target) → good (packed t) ≡ true
+unfolding good
+packed-good t =
+    and (and (marks-small t)
+    (ap (λ (c : Cycles). sameCycles c (cyclesOf (sequenceOf c))) (packed-cycles t)
+    ∙ ap (λ (s : Sequence). sameCycles (cyclesOf (t .decoder .sequence)) (cyclesOf s)) (sequence-back (t .decoder .sequence)) ∙ cycles-self (cyclesOf (t .decoder .sequence))))
+    (ap (λ (p : Place). samePlace p (placeOf (outputOf p))) (packed-place t)
+    ∙ ap (λ (x : Output). samePlace (placeOf (t .decoder .output)) (placeOf x)) (output-back (t .decoder .output)) ∙ place-self (placeOf (t .decoder .output)))
+
+-- a byte that is a mark
+mark-fits : (n : ℕ) → leb n 1 ≡ true → markByte (isSet n) ≡ n
+mark-fits n h = by (eqb n 1) refl where
+  by : (b : Bool) → eqb n 1 ≡ b → markByte b ≡ n
+  by true e = sym (eqb-true n 1 e)
+  by false e = let small = leb-true n 1 h in let other = eqb-false n 1 e in zero small other where
+    zero : n ≤ 1 → (n ≡ 1 → ⊥) → 0 ≡ n
+    zero small other = omega arith
+
+same-cycles : (a b : Cycles) → sameCycles a b ≡ true → a ≡ b
+unfolding sameCycles
+same-cycles a b h =
+    let h7 = both (eqb (a .kind) (b .kind) && eqb (a .first) (b .first) && eqb (a .got) (b .got) && eqb (a .low) (b .low) && eqb (a .mid) (b .mid) && eqb (a .value) (b .value) && eqb (a .column) (b .column)) (eqb (a .row) (b .row)) h in
+    let h6 = both (eqb (a .kind) (b .kind) && eqb (a .first) (b .first) && eqb (a .got) (b .got) && eqb (a .low) (b .low) && eqb (a .mid) (b .mid) && eqb (a .value) (b .value)) (eqb (a .column) (b .column)) (h7 .0) in
+    let h5 = both (eqb (a .kind) (b .kind) && eqb (a .first) (b .first) && eqb (a .got) (b .got) && eqb (a .low) (b .low) && eqb (a .mid) (b .mid)) (eqb (a .value) (b .value)) (h6 .0) in
+    let h4 = both (eqb (a .kind) (b .kind) && eqb (a .first) (b .first) && eqb (a .got) (b .got) && eqb (a .low) (b .low)) (eqb (a .mid) (b .mid)) (h5 .0) in
+    let h3 = both4 (eqb (a .kind) (b .kind)) (eqb (a .first) (b .first)) (eqb (a .got) (b .got)) (eqb (a .low) (b .low)) (h4 .0) in
+    λ j. record {
+      kind = eqb-true (a .kind) (b .kind) (h3 .0) j;
+      first = eqb-true (a .first) (b .first) (h3 .1) j;
+      got = eqb-true (a .got) (b .got) (h3 .2) j;
+      low = eqb-true (a .low) (b .low) (h3 .3) j;
+      mid = eqb-true (a .mid) (b .mid) (h4 .1) j;
+      value = eqb-true (a .value) (b .value) (h5 .1) j;
+      column = eqb-true (a .column) (b .column) (h6 .1) j;
+      row = eqb-true (a .row) (b .row) (h7 .1) j;
+    }
+
+same-place : (a b : Place) → samePlace a b ≡ true → a ≡ b
+unfolding samePlace
+same-place a b h =
+    let p = both3 (eqb (a .kind) (b .kind)) (eqb (a .lun) (b .lun)) (eqb (a .at) (b .at)) h in
+    λ j. record { kind = eqb-true (a .kind) (b .kind) (p .0) j; lun = eqb-true (a .lun) (b .lun) (p .1) j; at = eqb-true (a .at) (b .at) (p .2) j }
+
+working-back : (w f : List ℕ) → length w ≡ 4 → fourMarks w ≡ true → workingOf (lunsOf w f) ≡ w
+unfolding fourMarks
+working-back w f l h =
+    let p = both4 (leb (getD w 0 0) 1) (leb (getD w 1 0) 1) (leb (getD w 2 0) 1) (leb (getD w 3 0) 1) h in
+    (λ j. mark-fits (getD w 0 0) (p .0) j ∷ mark-fits (getD w 1 0) (p .1) j ∷ mark-fits (getD w 2 0) (p .2) j ∷ mark-fits (getD w 3 0) (p .3) j ∷ []) ∙ four 0 w l
+
+fail-back : (w f : List ℕ) → length f ≡ 4 → fourMarks f ≡ true → failOf (lunsOf w f) ≡ f
+unfolding fourMarks
+fail-back w f l h =
+    let p = both4 (leb (getD f 0 0) 1) (leb (getD f 1 0) 1) (leb (getD f 2 0) 1) (leb (getD f 3 0) 1) h in
+    (λ j. mark-fits (getD f 0 0) (p .0) j ∷ mark-fits (getD f 1 0) (p .1) j ∷ mark-fits (getD f 2 0) (p .2) j ∷ mark-fits (getD f 3 0) (p .3) j ∷ []) ∙ four 0 f l
+
+-- what can be unpacked packs back to itself
+pub image-back : (i : Image) → length (i .working) ≡ 4 → length (i .fail) ≡ 4 → good i ≡ true → packed (unpacked i) ≡ i
+unfolding good marksGood packed unpacked cyclesIn placeIn
+image-back i lw lf h =
+    let g = both3 (marksGood i) (sameCycles (cyclesIn i) (cyclesOf (sequenceOf (cyclesIn i)))) (samePlace (placeIn i) (placeOf (outputOf (placeIn i)))) h in
+    let cycles = sym (same-cycles (cyclesIn i) (cyclesOf (sequenceOf (cyclesIn i))) (g .1)) in
+    let place = sym (same-place (placeIn i) (placeOf (outputOf (placeIn i))) (g .2)) in
+    let m9 = both (leb (i .powered) 1 && leb (i .look) 1 && leb (i .fetch) 1 && leb (i .features) 1 && leb (i .«can_clear») 1 && leb (i .high) 1 && leb (i .clear) 1 && leb (i .seen) 1 && fourMarks (i .working)) (fourMarks (i .fail)) (g .0) in
+    let m8 = both (leb (i .powered) 1 && leb (i .look) 1 && leb (i .fetch) 1 && leb (i .features) 1 && leb (i .«can_clear») 1 && leb (i .high) 1 && leb (i .clear) 1 && leb (i .seen) 1) (fourMarks (i .working)) (m9 .0) in
+    let m7 = both (leb (i .powered) 1 && leb (i .look) 1 && leb (i .fetch) 1 && leb (i .features) 1 && leb (i .«can_clear») 1 && leb (i .high) 1 && leb (i .clear) 1) (leb (i .seen) 1) (m8 .0) in
+    let m6 = both (leb (i .powered) 1 && leb (i .look) 1 && leb (i .fetch) 1 && leb (i .features) 1 && leb (i .«can_clear») 1 && leb (i .high) 1) (leb (i .clear) 1) (m7 .0) in
+    let m5 = both (leb (i .powered) 1 && leb (i .look) 1 && leb (i .fetch) 1 && leb (i .features) 1 && leb (i .«can_clear») 1) (leb (i .high) 1) (m6 .0) in
+    let m4 = both (leb (i .powered) 1 && leb (i .look) 1 && leb (i .fetch) 1 && leb (i .features) 1) (leb (i .«can_clear») 1) (m5 .0) in
+    let m3 = both4 (leb (i .powered) 1) (leb (i .look) 1) (leb (i .fetch) 1) (leb (i .features) 1) (m4 .0) in
+    λ j. record {
+      page = i .page;
+      pages = i .pages;
+      blocks = i .blocks;
+      luns = i .luns;
+      programs = i .programs;
+      selected = i .selected;
+      column = cycles j .column;
+      row = cycles j .row;
+      «output_lun» = place j .lun;
+      «output_at» = place j .at;
+      powered = mark-fits (i .powered) (m3 .0) j;
+      look = mark-fits (i .look) (m3 .1) j;
+      fetch = mark-fits (i .fetch) (m3 .2) j;
+      features = mark-fits (i .features) (m3 .3) j;
+      «can_clear» = mark-fits (i .«can_clear») (m4 .1) j;
+      high = mark-fits (i .high) (m5 .1) j;
+      clear = mark-fits (i .clear) (m6 .1) j;
+      seen = mark-fits (i .seen) (m7 .1) j;
+      working = working-back (i .working) (i .fail) lw (m8 .1) j;
+      fail = fail-back (i .working) (i .fail) lf (m9 .1) j;
+      maker = i .maker;
+      device = i .device;
+      sequence = cycles j .kind;
+      first = cycles j .first;
+      got = cycles j .got;
+      low = cycles j .low;
+      mid = cycles j .mid;
+      value = cycles j .value;
+      output = place j .kind;
+    }
+
+-- a record that is taken out and put back unchanged is as it was, whatever its numbers
+pub kept-image : (i : Image) → length (i .working) ≡ 4 → length (i .fail) ≡ 4 → putBack i (taken i) ≡ i
+unfolding putBack taken
+kept-image i lw lf = by (good i) refl where
+  by : (b : Bool) → good i ≡ b → putBack i (taken i) ≡ i
+  by true e = ap (λ (g : Bool). pick g (packed (pick g (unpacked i) unpowered)) i) e ∙ image-back i lw lf e
+  by false e = ap (λ (g : Bool). pick g (packed (pick g (unpacked i) unpowered)) i) e
+
+-- an event that rule 13 refuses changes no number of the record and no lent byte
+module _ (i : Image) (page : List ℕ) (b : Buffers) (flags : List ℕ) (lw : length (i .working) ≡ 4) (lf : length (i .fail) ≡ 4) where
+  abbrev Usable : Target → Bool
+  Usable t = usable t (length page) (length (b .array)) (length (b .registers)) (length (b .counts)) (length flags)
+
+  pub kept-event : (kind value : ℕ) → Usable (taken i) ≡ false → eventOn i kind value page b flags ≡ record { answer = 525; image = i; buffers = b }
+  unfolding eventOn stepOf replyNumber
+  kept-event kind value h =
+      ap (λ (g : Bool). evented i (pick g (steady (taken i) (record { kind = kind; value = value }) page b flags) (record { reply = reply.Refused refusal.NotUsable; target = taken i; buffers = b }))) h
+      ∙ (λ j. record { answer = 525; image = kept-image i lw lf j; buffers = b })
+
+  -- numbers that no record packs to are never usable
+  pub bad-taken : good i ≡ false → taken i ≡ unpowered
+  unfolding taken
+  bad-taken h = ap (λ (g : Bool). pick g (unpacked i) unpowered) h
+
+  bad-unusable : Usable unpowered ≡ false
+  unfolding usable recordSound unpowered
+  bad-unusable = refl
+
+  pub bad-event : (kind value : ℕ) → good i ≡ false → eventOn i kind value page b flags ≡ record { answer = 525; image = i; buffers = b }
+  bad-event kind value h = kept-event kind value (ap Usable (bad-taken h) ∙ bad-unusable)
