@@ -187,7 +187,7 @@ static trace refusal_trace(const pair *p)
 
 static void time_trace(const char *name, const fields *f, trace (*make)(const pair *))
 {
-    enum { RUNS = 7 };
+    enum { RUNS = 60 };
     pair p;
     open_pair(&p, f);
     trace w = make(&p);
@@ -213,7 +213,7 @@ static void time_trace(const char *name, const fields *f, trace (*make)(const pa
     /* the same, one call an event */
     size_t some = w.n < 400000 ? w.n : 400000;
     best[0] = best[1] = 1e18;
-    for (unsigned run = 0; run < 3; run++)
+    for (unsigned run = 0; run < RUNS / 2; run++)
         for (int proved = 0; proved < 2; proved++) {
             must(power(&p, proved) == 0, "power-on");
             double start = now();
