@@ -3,7 +3,7 @@
  * Bus cycles go in; replies, status and array contents come out. The four functions below are compiled from proved code: what
  * they answer, and every byte that they leave in the record and in the buffers, is settled by definitions that follow the
  * requirements line by line (crates/host/specs of the repository). They allocate nothing, keep nothing between calls, read no
- * clock and call nothing but the C library's memcpy, memmove, memset and memcmp, so any number of targets may be used at once, each by
+ * clock and call nothing but memcpy, memmove, memset and the like of the C library, so any number of targets may be used at once, each by
  * one thread at a time.
  *
  * WHAT THE CALLER LENDS. A target is a record (nib_target) and five buffers, all the caller's own:
