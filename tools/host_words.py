@@ -8,7 +8,7 @@
 - Each function that is not exported is to be put in place of its calls (`alwaysinline`).
 - A copy of a record is written as copies of its 8-byte words, in order, and of what is left over. LLVM makes registers of words; of a record
   with a one-byte mark at its front it makes copies of 7 bytes as two of 4 that overlap, each of which waits for the one before.
-  Measured: 27 ns an event with words, 130 without (docs/BENCHMARK.md). The copies are of whole records: two places of one type are
+  docs/BENCHMARK.md has what each of the two is worth. The copies are of whole records: two places of one type are
   the same or apart, so that the order of the words decides nothing.
 
 Nothing else changes. The build that AddressSanitizer watches (tools/build-host) is made without the last two, so the tests see both.
