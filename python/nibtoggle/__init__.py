@@ -1,0 +1,31 @@
+"""A proved bench model of an ONFI NAND flash target, for loader tests in Python.
+
+    from nibtoggle import Bench
+
+    bench = Bench.t1()                       # a small part of two LUNs, powered on
+    bench.reset()                            # FFh, which a part wants first
+    bench.program(0, 3, 1, b"preset")        # LUN 0, block 3, page 1
+    assert bench.read_page(0, 3, 1, count=6) == b"preset"
+
+Every event is answered by the proved library (libnibtoggle.so, which `tools/build-host` makes); this package only writes
+the cycles and reads the replies. Standard library only.
+"""
+from ._library import Library, LibraryNotFound
+from .bench import Bench, Rest
+from .part import Part, crc, parameter_page
+from .replies import RULES, Refused, Replies, Reply, Status
+
+__all__ = [
+    "Bench",
+    "Library",
+    "LibraryNotFound",
+    "Part",
+    "RULES",
+    "Refused",
+    "Replies",
+    "Reply",
+    "Rest",
+    "Status",
+    "crc",
+    "parameter_page",
+]

@@ -1,0 +1,361 @@
+/* The worked cases of the requirements, event by event through the C functions: the whole case, cases (a) to (j), the lost preset, the
+ * unread rest, traces with short room and an odd byte, power-on's refusals. */
+#include "part.h"
+
+#include <stdio.h>
+#include <stdlib.h>
+
+static unsigned checks, failures;
+
+static void same(const char *what, unsigned long long is, unsigned long long should)
+{
+    checks++;
+    if (is != should) {
+        failures++;
+        printf("%s: %llX, and %llX is due\n", what, is, should);
+    }
+}
+
+/* A part and all that is lent with it. */
+typedef struct bench {
+    nib_target t;
+    nib_lent b;
+    nib_part part;
+    uint8_t page[NIB_PAGE_LENGTH];
+    uint8_t *flags;
+} bench;
+
+static void *bytes(size_t n, int fill)
+{
+    void *p = malloc(n);
+    if (!p)
+        exit(2);
+    return memset(p, fill, n);
+}
+
+static void open_bench(bench *x, const fields *f)
+{
+    make_page(x->page, f);
+    x->part = nib_part_of(x->page);
+    x->b.page = x->page;
+    x->b.page_length = sizeof x->page;
+    x->b.array_length = nib_array_length(x->part);
+    x->b.registers_length = nib_registers_length(x->part);
+    x->b.counts_length = nib_counts_length(x->part);
+    x->b.flags_length = nib_flags_length(x->part);
+    x->b.array = bytes(x->b.array_length, 0xFF);
+    x->b.registers = bytes(x->b.registers_length, 0);
+    x->b.counts = bytes(x->b.counts_length, 0);
+    x->b.flags = x->flags = bytes(x->b.flags_length, 0);
+    memset(&x->t, 0xEE, sizeof x->t);
+    same("power-on", nib_lent_power_on(&x->t, &x->b, DEVICE), 0);
+}
+
+static void close_bench(bench *x)
+{
+    free(x->b.array);
+    free(x->b.registers);
+    free(x->b.counts);
+    free(x->flags);
+}
+
+static uint32_t event(bench *x, uint8_t kind, uint8_t value)
+{
+    return nib_lent_event(&x->t, &x->b, kind, value);
+}
+
+static uint32_t command(bench *x, uint8_t value) { return event(x, NIB_COMMAND, value); }
+static uint32_t address(bench *x, uint8_t value) { return event(x, NIB_ADDRESS, value); }
+static uint32_t data_in(bench *x, uint8_t value) { return event(x, NIB_DATA_IN, value); }
+static uint32_t data_out(bench *x) { return event(x, NIB_DATA_OUT, 0); }
+
+/* The last reply of a column's two cycles, of a row's three. */
+static uint32_t column(bench *x, unsigned n)
+{
+    same("first column cycle", address(x, (uint8_t)n), NIB_ACCEPTED);
+    return address(x, (uint8_t)(n >> 8));
+}
+
+static uint32_t row(bench *x, uint32_t n)
+{
+    same("first row cycle", address(x, (uint8_t)n), NIB_ACCEPTED);
+    same("second row cycle", address(x, (uint8_t)(n >> 8)), NIB_ACCEPTED);
+    return address(x, (uint8_t)(n >> 16));
+}
+
+static void program(bench *x, uint32_t at, unsigned col, const uint8_t *data, size_t n)
+{
+    same("80h", command(x, 0x80), NIB_ACCEPTED);
+    same("column", column(x, col), NIB_ACCEPTED);
+    same("row", row(x, at), NIB_ACCEPTED);
+    for (size_t i = 0; i < n; i++)
+        same("data in", data_in(x, data[i]), NIB_ACCEPTED);
+    same("10h", command(x, 0x10), NIB_ACCEPTED);
+}
+
+static uint32_t status(bench *x, uint32_t at)
+{
+    same("78h", command(x, 0x78), NIB_ACCEPTED);
+    same("row of 78h", row(x, at), NIB_ACCEPTED);
+    return data_out(x);
+}
+
+#define REFUSED(n) (0x200u + (n))
+#define BYTE(n) (0x100u + (n))
+
+/* "Whole case, a just powered target": each event with its answer, and every lent byte afterwards. */
+static void whole_case(void)
+{
+    static const uint8_t in[] = {0, 0xFF, 0, 0x90, 1, 0x20, 3, 0, 3, 0, 3, 0, 3, 0, 3, 0};
+    static const uint8_t out[] = {0, 0, 0, 0, 0, 0, 1, 0x4F, 1, 0x4E, 1, 0x46, 1, 0x49, 2, 8};
+    bench x;
+    uint8_t replies[sizeof out + 2];
+    nib_target after;
+
+    open_bench(&x, &T1);
+    for (size_t i = 0; i < x.b.registers_length; i++)
+        same("register byte after power-on", x.b.registers[i], 0xFF);
+    for (size_t i = 0; i < sizeof in; i += 2)
+        same("whole case", event(&x, in[i], in[i + 1]), (uint32_t)out[i] << 8 | out[i + 1]);
+    after = x.t;
+    for (size_t i = 0; i < x.b.array_length; i++)
+        same("array byte", x.b.array[i], 0xFF);
+    for (size_t i = 0; i < x.b.counts_length; i++)
+        same("count", x.b.counts[i], 0);
+
+    /* again as one trace, with two bytes of room to spare: they stay */
+    same("power-on again", nib_lent_power_on(&x.t, &x.b, DEVICE), 0);
+    memset(replies, 0xCC, sizeof replies);
+    same("trace", nib_lent_trace(&x.t, &x.b, in, sizeof in, replies, sizeof replies), 0);
+    same("replies", (unsigned)memcmp(replies, out, sizeof out), 0);
+    same("room to spare", replies[sizeof out] == 0xCC && replies[sizeof out + 1] == 0xCC, 1);
+    same("the same record", (unsigned)memcmp(&x.t, &after, offsetof(nib_target, output) + 1), 0);
+    close_bench(&x);
+}
+
+/* Cases (a) to (j). */
+static void cases(void)
+{
+    fields f2 = T1;
+    bench x, y;
+    static const uint8_t a5 = 0xA5, c3 = 0x3C;
+    uint32_t at;
+
+    open_bench(&x, &T1);
+    f2.pages = 3;
+    f2.blocks = 5;
+    open_bench(&y, &f2);
+    same("(a)", x.b.array_length, 33792);
+    same("(b) row", nib_row(x.part, 1, 5, 3), 55);
+    same("(b) place", nib_page_start(x.part, 1, 5, 3), 29040);
+    same("(c)", nib_row(y.part, 0, 4, 2), 18);
+    command(&x, 0xFF);
+    command(&y, 0xFF);
+
+    for (unsigned i = 0; i < 2; i++) {
+        command(&y, 0x80);
+        column(&y, 0);
+        same(i ? "(e)" : "(d)", row(&y, i ? 20 : 15), REFUSED(4));
+    }
+    command(&y, 0x80);
+    column(&y, 0);
+    same("(c) row 18", row(&y, 18), NIB_ACCEPTED);
+    same("(c) selects LUN 0", y.t.selected, 0);
+    command(&y, 0xFF);
+
+    command(&x, 0x80);
+    column(&x, 0);
+    same("(f)", row(&x, 64), REFUSED(4));
+    command(&x, 0x80);
+    same("(g) 527", column(&x, 527), NIB_ACCEPTED);
+    command(&x, 0xFF);
+    command(&x, 0x80);
+    same("(g) 528", column(&x, 528), REFUSED(4));
+
+    at = nib_row(x.part, 1, 5, 3);
+    program(&x, at, 0, &a5, 1);
+    same("(i) working", status(&x, at), BYTE(0x80));
+    same("finish", event(&x, NIB_FINISH, 1), NIB_ACCEPTED);
+    same("(i) ready", status(&x, at), BYTE(0xE0));
+    program(&x, at, 0, &c3, 1);
+    same("finish", event(&x, NIB_FINISH, 1), NIB_ACCEPTED);
+    same("(h)", x.b.array[29040], 0x24);
+    same("(h) next byte", x.b.array[29041], 0xFF);
+    same("(h) count", x.b.counts[29040 / 528], 2);
+    for (size_t i = 0; i < x.b.array_length; i++)
+        if (i != 29040)
+            same("(h) other byte", x.b.array[i], 0xFF);
+
+    program(&x, at, 0, NULL, 0);
+    event(&x, NIB_FINISH, 1);
+    program(&x, at, 0, NULL, 0);
+    event(&x, NIB_FINISH, 1);
+    same("four programs", x.b.counts[29040 / 528], 4);
+    program(&x, at, 0, NULL, 0);        /* one more than the part allows */
+    event(&x, NIB_FINISH, 1);
+    same("count stays", x.b.counts[29040 / 528], 4);
+    same("(i) failed", status(&x, at), BYTE(0xE1));
+    same("reset", command(&x, 0xFF), NIB_ACCEPTED);
+    same("protect low", event(&x, NIB_PROTECT, 0), NIB_ACCEPTED);
+    same("(i) line low", status(&x, at), BYTE(0x60));
+    command(&x, 0x60);
+    same("row of 60h", row(&x, at), NIB_ACCEPTED);
+    same("D0h with the line low", command(&x, 0xD0), REFUSED(7));
+    same("protect high", event(&x, NIB_PROTECT, 1), NIB_ACCEPTED);
+
+    command(&x, 0x80);
+    column(&x, 527);
+    row(&x, at);
+    same("(j) at 527", data_in(&x, 0), NIB_ACCEPTED);
+    same("(j) the next", data_in(&x, 0), REFUSED(8));
+
+    command(&x, 0x60);
+    row(&x, at);
+    same("D0h", command(&x, 0xD0), NIB_ACCEPTED);
+    event(&x, NIB_FINISH, 1);
+    same("erased", x.b.array[29040], 0xFF);
+    same("count after erase", x.b.counts[29040 / 528], 0);
+    close_bench(&x);
+    close_bench(&y);
+}
+
+/* Two stations save at once; A looks at its register again. */
+static void lost_preset(int clear)
+{
+    static const uint8_t a[] = {0x3C, 0xA5}, b[] = {0x11, 0x22};
+    bench x;
+
+    open_bench(&x, &T1);
+    command(&x, 0xFF);
+    if (clear) {
+        same("EFh", command(&x, 0xEF), NIB_ACCEPTED);
+        same("feature 01h", address(&x, 1), NIB_ACCEPTED);
+        for (unsigned i = 0; i < 4; i++)
+            same("feature byte", data_in(&x, i ? 0 : 0x40), NIB_ACCEPTED);
+        same("program-clear", x.t.clear, 1);
+    }
+    program(&x, nib_row(x.part, 0, 0, 0), 0, a, 2);
+    program(&x, nib_row(x.part, 1, 0, 0), 0, b, 2);
+    event(&x, NIB_FINISH, 0);
+    event(&x, NIB_FINISH, 1);
+    same("06h", command(&x, 0x06), NIB_ACCEPTED);
+    column(&x, 0);
+    row(&x, nib_row(x.part, 0, 0, 0));
+    same("E0h", command(&x, 0xE0), NIB_ACCEPTED);
+    same("A's first byte", data_out(&x), BYTE(clear ? 0x3Cu : 0xFFu));
+    same("A's second byte", data_out(&x), BYTE(clear ? 0xA5u : 0xFFu));
+    same("A's preset in the array", x.b.array[0] == 0x3C && x.b.array[1] == 0xA5, 1);
+    same("B's preset in the array", x.b.array[nib_page_start(x.part, 1, 0, 0)], 0x11);
+    close_bench(&x);
+}
+
+static void rest(void)
+{
+    bench x;
+    uint64_t r;
+
+    open_bench(&x, &T1);
+    same("no output", nib_lent_rest(&x.t, &x.b), 0);
+    command(&x, 0xFF);
+    command(&x, 0x00);
+    column(&x, 500);
+    row(&x, nib_row(x.part, 1, 0, 0));
+    same("30h", command(&x, 0x30), NIB_ACCEPTED);
+    same("while the LUN works", nib_lent_rest(&x.t, &x.b), 0);
+    event(&x, NIB_FINISH, 1);
+    same("a byte", data_out(&x), BYTE(0xFF));
+    r = nib_lent_rest(&x.t, &x.b);
+    same("registers", nib_rest_buffer(r), NIB_REST_REGISTERS);
+    same("start", nib_rest_start(r), 528 + 501);
+    same("length", nib_rest_length(r), 27);
+    same("another length of the registers", nib_rest(&x.t, x.b.page, 256, x.b.registers, x.b.registers_length - 1), 0);
+    same("NULL with length 0", nib_rest(&x.t, NULL, 0, NULL, 0), 0);
+
+    command(&x, 0xEC);
+    address(&x, 0);
+    for (unsigned i = 0; i < 300; i++)
+        same("parameter byte", data_out(&x), BYTE(x.page[i % 256]));
+    r = nib_lent_rest(&x.t, &x.b);
+    same("parameters", nib_rest_buffer(r), NIB_REST_PARAMETERS);
+    same("start", nib_rest_start(r), 44);
+    same("length", nib_rest_length(r), 212);
+    for (unsigned i = 300; i < 768; i++)
+        data_out(&x);
+    same("all copies read", nib_lent_rest(&x.t, &x.b), 0);
+    same("past the third copy", data_out(&x), REFUSED(8));
+    close_bench(&x);
+}
+
+static void refused_calls(void)
+{
+    static const uint8_t odd[] = {0, 0xFF, 7};
+    bench x;
+    uint8_t replies[4] = {9, 9, 9, 9};
+    nib_target before, powered;
+    nib_lent wrong;
+
+    open_bench(&x, &T1);
+    before = x.t;
+    same("short room", nib_lent_trace(&x.t, &x.b, odd, 3, replies, 3), 16);
+    same("nothing written", replies[0] == 9 && replies[1] == 9 && replies[2] == 9, 1);
+    same("nothing run", (unsigned)memcmp(&x.t, &before, offsetof(nib_target, output) + 1), 0);
+    same("odd byte", nib_lent_trace(&x.t, &x.b, odd, 3, replies, 4), 0);
+    same("its reply", replies[2] == 2 && replies[3] == 12, 1);
+    same("empty trace", nib_lent_trace(&x.t, &x.b, NULL, 0, NULL, 0), 0);
+
+    powered = x.t;
+    x.t.sequence = 8;
+    before = x.t;
+    same("no such sequence", command(&x, 0xFF), REFUSED(13));
+    same("it stays", (unsigned)memcmp(&x.t, &before, offsetof(nib_target, output) + 1), 0);
+    x.t = powered;
+    x.t.high = 2;
+    same("a mark of 2", command(&x, 0xFF), REFUSED(13));
+    x.t = powered;
+    x.t.row = 1;
+    same("a row with no sequence", command(&x, 0xFF), REFUSED(13));
+    x.t = powered;
+    x.t.page = SIZE_MAX;
+    same("a geometry past all limits", command(&x, 0xFF), REFUSED(13));
+    x.t = powered;
+    same("all NULL", nib_event(&x.t, 0, 0xFF, NULL, 0, NULL, 0, NULL, 0, NULL, 0, NULL, 0), REFUSED(13));
+    same("as before", command(&x, 0xFF), NIB_ACCEPTED);
+    same("words", strcmp(nib_words(nib_refusal(REFUSED(13))), "") != 0, 1);
+
+    wrong = x.b;
+    wrong.page_length = 255;
+    same("20", nib_lent_power_on(&x.t, &wrong, DEVICE), 20);
+    same("unpowered", command(&x, 0xFF), REFUSED(13));
+    same("all numbers 0", x.t.page == 0 && x.t.luns == 0 && x.t.device == 0, 1);
+    x.page[0] = 'o';
+    same("21", nib_lent_power_on(&x.t, &x.b, DEVICE), 21);
+    x.page[0] = 'O';
+    x.page[130] ^= 1;
+    same("22", nib_lent_power_on(&x.t, &x.b, DEVICE), 22);
+    x.page[130] ^= 1;
+    x.page[110] = 9;
+    put_crc(x.page);
+    same("23", nib_lent_power_on(&x.t, &x.b, DEVICE), 23);
+    x.page[110] = 4;
+    put_crc(x.page);
+    wrong = x.b;
+    wrong.array_length--;
+    same("24", nib_lent_power_on(&x.t, &wrong, DEVICE), 24);
+    x.b.counts[3] = 5;
+    same("25", nib_lent_power_on(&x.t, &x.b, DEVICE), 25);
+    x.b.counts[3] = 4;
+    same("powered again", nib_lent_power_on(&x.t, &x.b, DEVICE), 0);
+    close_bench(&x);
+}
+
+int main(void)
+{
+    whole_case();
+    cases();
+    lost_preset(1);
+    lost_preset(0);
+    rest();
+    refused_calls();
+    printf("whole: %u checks, %u failed\n", checks, failures);
+    return failures != 0;
+}
