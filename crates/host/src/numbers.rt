@@ -33,6 +33,9 @@ pub struct Place {
     pub at: usize,
 }
 
+// A mark of each of the four LUN records, as bytes.
+pub type Marks = [u8; 4];
+
 // A mark as a byte.
 pub fn mark_byte(b: bool) -> u8
     ensures { λ r. ⌜ r ≡ markByte b ⌝ }
@@ -309,7 +312,7 @@ fn lun_of(working: u8, fail: u8) -> Lun
     }
 }
 
-pub fn to_luns(working: [u8; 4], fail: [u8; 4]) -> Luns
+pub fn to_luns(working: Marks, fail: Marks) -> Luns
     ensures { λ r. ⌜ r ≡ lunsOf working fail ⌝ }
 {
     let a = lun_of(working[0], fail[0]);
@@ -319,7 +322,7 @@ pub fn to_luns(working: [u8; 4], fail: [u8; 4]) -> Luns
     [a, b, c, d]
 }
 
-pub fn of_working(luns: Luns) -> [u8; 4]
+pub fn of_working(luns: Luns) -> Marks
     ensures { λ r. ⌜ r ≡ workingOf luns ⌝ }
 {
     let a = mark_byte(works(luns, 0));
@@ -329,7 +332,7 @@ pub fn of_working(luns: Luns) -> [u8; 4]
     [a, b, c, d]
 }
 
-pub fn of_fail(luns: Luns) -> [u8; 4]
+pub fn of_fail(luns: Luns) -> Marks
     ensures { λ r. ⌜ r ≡ failOf luns ⌝ }
 {
     let a = mark_byte(failed(luns, 0));
@@ -340,7 +343,7 @@ pub fn of_fail(luns: Luns) -> [u8; 4]
 }
 
 // Four bytes, each 0 or 1.
-pub fn four_marks(m: [u8; 4]) -> bool
+pub fn four_marks(m: Marks) -> bool
     ensures { λ r. ⌜ r ≡ fourMarks m ⌝ }
 {
     (m[0] <= 1) & (m[1] <= 1) & (m[2] <= 1) & (m[3] <= 1)

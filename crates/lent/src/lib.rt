@@ -143,11 +143,14 @@ fn lesser(n: usize, size: usize) -> usize
     if size < n { size } else { n }
 }
 
+// Events that a program holds itself.
+pub type Held = [Event; 64];
+
 // A batch of the first `n` events of an array that is held here, or of all 64: whoever calls it lends no events, and needs no
 // proof by hand.
 pub fn run_some(
     t: Target,
-    events: [Event; 64],
+    events: Held,
     n: usize,
     params: &[u8],
     array: &mut [u8],
