@@ -1,0 +1,258 @@
+// `nib demo`: two stations save a preset at once, on part T1 in memory, with program-clear on and then off.
+use crate::part::Array;
+use crate::part::Counts;
+use crate::part::Flags;
+use crate::part::Part;
+use crate::part::Registers;
+use crate::part::T1;
+use crate::part::T1_ID;
+use crate::part::planned;
+use crate::part::power;
+use crate::pen::Paper;
+use crate::pen::Pen;
+use crate::pen::begin;
+use crate::pen::byte;
+use crate::pen::end_line;
+use crate::pen::flush;
+use crate::pen::put;
+use crate::pen::text;
+use crate::running::Stream;
+use crate::running::bytes;
+use crate::running::stream;
+use cells::byte_at;
+use cells::fill;
+use libc::STDOUT_FILENO;
+
+const RESET: [u8; 2] = [0, 0xff];
+
+// Feature 01h: program-clear.
+const CLEAR_ON: [u8; 12] = [0, 0xef, 1, 1, 2, 0x40, 2, 0, 2, 0, 2, 0];
+
+// A programs 3Ch A5h at the start of row 0, of LUN 0, which then works.
+const A_SAVES: [u8; 18] = [
+    0, 0x80, 1, 0, 1, 0, 1, 0, 1, 0, 1, 0, 2, 0x3c, 2, 0xa5, 0, 0x10,
+];
+
+// B programs C3h at column 7 of row 32, of LUN 1.
+const B_SAVES: [u8; 22] = [
+    0, 0x80, 1, 0, 1, 0, 1, 32, 1, 0, 1, 0, 0, 0x85, 1, 7, 1, 0, 2, 0xc3, 0, 0x10,
+];
+
+const A_READY: [u8; 2] = [4, 0];
+
+// A reads its register out again.
+const A_READS: [u8; 18] = [
+    0, 0x06, 1, 0, 1, 0, 1, 0, 1, 0, 1, 0, 0, 0xe0, 3, 0, 3, 0,
+];
+
+// A asks for B's register while B's LUN works.
+const A_TRIES: [u8; 12] = [0, 0x06, 1, 0, 1, 0, 1, 32, 1, 0, 1, 0];
+
+// B's LUN is done, and B asks for its status.
+const B_READY: [u8; 12] = [4, 1, 0, 0x78, 1, 32, 1, 0, 1, 0, 3, 0];
+
+fn heading(s: Stream, out: &mut Paper, words: &[u8]) -> Stream {
+    let p = s.pen;
+    let p = end_line(out, p);
+    let p = text(out, p, words);
+    let pen = end_line(out, p);
+    Stream { pen, ..s }
+}
+
+fn told(
+    s: Stream,
+    words: &[u8],
+    records: &[u8],
+    out: &mut Paper,
+    part: Part,
+    array: &mut Array,
+    registers: &mut Registers,
+    counts: &mut Counts,
+    flags: &Flags,
+) -> Stream {
+    let s = heading(s, out, words);
+    bytes(s, records, out, part, &T1, array, registers, counts, flags)
+}
+
+fn save_at_once(
+    s: Stream,
+    out: &mut Paper,
+    part: Part,
+    array: &mut Array,
+    registers: &mut Registers,
+    counts: &mut Counts,
+    flags: &Flags,
+) -> Stream {
+    let s = told(
+        s,
+        b"Station A saves its preset, 3Ch A5h, in LUN 0.",
+        &A_SAVES,
+        out,
+        part,
+        array,
+        registers,
+        counts,
+        flags,
+    );
+    let s = told(
+        s,
+        b"While LUN 0 works, station B saves its own, C3h at column 7, in LUN 1.",
+        &B_SAVES,
+        out,
+        part,
+        array,
+        registers,
+        counts,
+        flags,
+    );
+    let s = told(
+        s,
+        b"A asks for B's register too early.",
+        &A_TRIES,
+        out,
+        part,
+        array,
+        registers,
+        counts,
+        flags,
+    );
+    told(
+        s,
+        b"LUN 0 comes to its end.",
+        &A_READY,
+        out,
+        part,
+        array,
+        registers,
+        counts,
+        flags,
+    )
+}
+
+fn look_again(
+    s: Stream,
+    out: &mut Paper,
+    part: Part,
+    array: &mut Array,
+    registers: &mut Registers,
+    counts: &mut Counts,
+    flags: &Flags,
+) -> Stream {
+    let s = told(
+        s,
+        b"A reads its register again, to compare.",
+        &A_READS,
+        out,
+        part,
+        array,
+        registers,
+        counts,
+        flags,
+    );
+    told(
+        s,
+        b"LUN 1 comes to its end, and B asks for its status.",
+        &B_READY,
+        out,
+        part,
+        array,
+        registers,
+        counts,
+        flags,
+    )
+}
+
+fn two_bytes(out: &mut Paper, p: Pen, words: &[u8], s: &[u8], at: usize, next: usize) -> Pen {
+    let p = text(out, p, words);
+    let p = byte(out, p, byte_at(s, at));
+    let p = put(out, p, b' ');
+    let p = byte(out, p, byte_at(s, next));
+    end_line(out, p)
+}
+
+// What each preset holds at the end: row 0 is the array's first page, row 32 lies 16,896 bytes on.
+fn presets(s: Stream, out: &mut Paper, array: &Array, registers: &Registers) -> Pen {
+    let p = s.pen;
+    let p = end_line(out, p);
+    let p = two_bytes(out, p, b"A's register   ", registers, 0, 1);
+    let p = two_bytes(out, p, b"A's preset     ", array, 0, 1);
+    let p = two_bytes(out, p, b"B's preset     ", array, 16903, 16904);
+    flush(out, p)
+}
+
+// The story after its first cycles.
+fn story(
+    s: Stream,
+    out: &mut Paper,
+    part: Part,
+    array: &mut Array,
+    registers: &mut Registers,
+    counts: &mut Counts,
+    flags: &Flags,
+) {
+    let s = save_at_once(s, out, part, array, registers, counts, flags);
+    let s = look_again(s, out, part, array, registers, counts, flags);
+    presets(s, out, array, registers);
+}
+
+fn telling(
+    words: &[u8],
+    first: &[u8],
+    out: &mut Paper,
+    part: Part,
+    array: &mut Array,
+    registers: &mut Registers,
+    counts: &mut Counts,
+    flags: &Flags,
+) {
+    fill(array, 0xff);
+    fill(counts, 0);
+    let on = power(part, &T1, array, registers, counts, flags);
+    let t = on.target;
+    let p = begin(STDOUT_FILENO);
+    let p = text(out, p, words);
+    let s = stream(t, p, true);
+    let s = told(
+        s,
+        b"The part is powered, and reset.",
+        &RESET,
+        out,
+        part,
+        array,
+        registers,
+        counts,
+        flags,
+    );
+    let s = bytes(s, first, out, part, &T1, array, registers, counts, flags);
+    story(s, out, part, array, registers, counts, flags);
+}
+
+pub fn tell(
+    out: &mut Paper,
+    array: &mut Array,
+    registers: &mut Registers,
+    counts: &mut Counts,
+    flags: &Flags,
+) {
+    let part = planned(b"T1", &T1, T1_ID);
+    telling(
+        b"== Program-clear on: 80h clears the register of the LUN that it names.\n",
+        &CLEAR_ON,
+        out,
+        part,
+        array,
+        registers,
+        counts,
+        flags,
+    );
+    telling(
+        b"\n== Program-clear off: 80h clears every register.\n",
+        b"",
+        out,
+        part,
+        array,
+        registers,
+        counts,
+        flags,
+    );
+}
