@@ -1,24 +1,24 @@
 // `nib demo`: two stations save a preset at once, on part T1 in memory, with program-clear on and then off.
-use crate::part::Array;
-use crate::part::Counts;
-use crate::part::Flags;
-use crate::part::Part;
-use crate::part::Registers;
-use crate::part::T1;
-use crate::part::T1_ID;
-use crate::part::planned;
-use crate::part::power;
-use crate::pen::Paper;
-use crate::pen::Pen;
-use crate::pen::begin;
-use crate::pen::byte;
-use crate::pen::end_line;
-use crate::pen::flush;
-use crate::pen::put;
-use crate::pen::text;
+use shelf::part::Array;
+use shelf::part::Counts;
+use shelf::part::Flags;
+use shelf::part::Page;
+use shelf::part::Part;
+use shelf::part::Registers;
+use shelf::part::T1_ID;
+use shelf::part::planned;
+use shelf::part::power;
+use pens::pen::Paper;
+use pens::pen::Pen;
+use pens::pen::begin;
+use pens::pen::byte;
+use pens::pen::end_line;
+use pens::pen::flush;
+use pens::pen::put;
+use pens::pen::text;
 use crate::running::Stream;
 use crate::running::bytes;
-use crate::running::stream;
+use crate::running::set_out;
 use cells::byte_at;
 use cells::fill;
 use libc::STDOUT_FILENO;
@@ -65,19 +65,21 @@ fn told(
     records: &[u8],
     out: &mut Paper,
     part: Part,
+    page: &Page,
     array: &mut Array,
     registers: &mut Registers,
     counts: &mut Counts,
     flags: &Flags,
 ) -> Stream {
     let s = heading(s, out, words);
-    bytes(s, records, out, part, &T1, array, registers, counts, flags)
+    bytes(s, records, out, part, page, array, registers, counts, flags)
 }
 
 fn save_at_once(
     s: Stream,
     out: &mut Paper,
     part: Part,
+    page: &Page,
     array: &mut Array,
     registers: &mut Registers,
     counts: &mut Counts,
@@ -89,6 +91,7 @@ fn save_at_once(
         &A_SAVES,
         out,
         part,
+        page,
         array,
         registers,
         counts,
@@ -100,6 +103,7 @@ fn save_at_once(
         &B_SAVES,
         out,
         part,
+        page,
         array,
         registers,
         counts,
@@ -111,6 +115,7 @@ fn save_at_once(
         &A_TRIES,
         out,
         part,
+        page,
         array,
         registers,
         counts,
@@ -122,6 +127,7 @@ fn save_at_once(
         &A_READY,
         out,
         part,
+        page,
         array,
         registers,
         counts,
@@ -133,6 +139,7 @@ fn look_again(
     s: Stream,
     out: &mut Paper,
     part: Part,
+    page: &Page,
     array: &mut Array,
     registers: &mut Registers,
     counts: &mut Counts,
@@ -144,6 +151,7 @@ fn look_again(
         &A_READS,
         out,
         part,
+        page,
         array,
         registers,
         counts,
@@ -155,6 +163,7 @@ fn look_again(
         &B_READY,
         out,
         part,
+        page,
         array,
         registers,
         counts,
@@ -185,13 +194,14 @@ fn story(
     s: Stream,
     out: &mut Paper,
     part: Part,
+    page: &Page,
     array: &mut Array,
     registers: &mut Registers,
     counts: &mut Counts,
     flags: &Flags,
 ) {
-    let s = save_at_once(s, out, part, array, registers, counts, flags);
-    let s = look_again(s, out, part, array, registers, counts, flags);
+    let s = save_at_once(s, out, part, page, array, registers, counts, flags);
+    let s = look_again(s, out, part, page, array, registers, counts, flags);
     presets(s, out, array, registers);
 }
 
@@ -200,6 +210,7 @@ fn telling(
     first: &[u8],
     out: &mut Paper,
     part: Part,
+    page: &Page,
     array: &mut Array,
     registers: &mut Registers,
     counts: &mut Counts,
@@ -207,39 +218,42 @@ fn telling(
 ) {
     fill(array, 0xff);
     fill(counts, 0);
-    let on = power(part, &T1, array, registers, counts, flags);
+    let on = power(part, page, array, registers, counts, flags);
     let t = on.target;
     let p = begin(STDOUT_FILENO);
     let p = text(out, p, words);
-    let s = stream(t, p, true);
+    let s = set_out(t, p, true);
     let s = told(
         s,
         b"The part is powered, and reset.",
         &RESET,
         out,
         part,
+        page,
         array,
         registers,
         counts,
         flags,
     );
-    let s = bytes(s, first, out, part, &T1, array, registers, counts, flags);
-    story(s, out, part, array, registers, counts, flags);
+    let s = bytes(s, first, out, part, page, array, registers, counts, flags);
+    story(s, out, part, page, array, registers, counts, flags);
 }
 
 pub fn tell(
     out: &mut Paper,
+    page: &Page,
     array: &mut Array,
     registers: &mut Registers,
     counts: &mut Counts,
     flags: &Flags,
 ) {
-    let part = planned(b"T1", &T1, T1_ID);
+    let part = planned(b"T1", page, T1_ID);
     telling(
         b"== Program-clear on: 80h clears the register of the LUN that it names.\n",
         &CLEAR_ON,
         out,
         part,
+        page,
         array,
         registers,
         counts,
@@ -250,6 +264,7 @@ pub fn tell(
         b"",
         out,
         part,
+        page,
         array,
         registers,
         counts,

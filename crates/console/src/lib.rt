@@ -1,37 +1,41 @@
 // nib, the bench at the command line: all of the program, so that it and the programs that try its commands are one call each.
 pub mod asked;
 pub mod demo;
-pub mod files;
 pub mod pages;
-pub mod part;
-pub mod pen;
 pub mod running;
-pub mod say;
 pub mod texts;
 
 use asked::Asked;
 use asked::asked_of;
-use part::Page;
-use part::T1;
-use part::T1_ID;
-use part::make;
-use part::planned;
-use pen::Paper;
-use pen::begin;
-use pen::flush;
-use pen::text;
+use shelf::part::Page;
+use shelf::part::T1_ID;
+use shelf::part::make;
+use shelf::part::planned;
+use shelf::part::t1;
+use pens::pen::Paper;
+use pens::pen::Pen;
+use pens::pen::begin;
+use pens::pen::flush;
+use pens::pen::text;
+
+fn usage_files(out: &mut Paper, p: Pen) -> Pen {
+    let p = text(out, p, b"  nib new DIR [PAGE]         makes a part folder: part T1, or the part of a page\n");
+    let p = text(out, p, b"  nib run DIR < TRACE        replies on standard output; the folder is brought up to date\n");
+    let p = text(out, p, b"  nib explain DIR < TRACE    the same in words; the folder stays as it is\n");
+    text(out, p, b"  nib page FILE              what a parameter page says, and power-on's answer\n")
+}
+
+fn usage_texts(out: &mut Paper, p: Pen) -> Pen {
+    let p = text(out, p, b"  nib text < TEXT > TRACE    a trace from text, as: c 80  a 00 00 37 00 00  d 3c  o 16  f 1  p 0\n");
+    let p = text(out, p, b"  nib text -d < TRACE        a trace as text\n");
+    text(out, p, b"  nib help                   these lines\n")
+}
 
 fn usage(fd: i32, out: &mut Paper) {
     let p = begin(fd);
-    let p = text(out, p, b"nib: a bench model of an ONFI NAND flash target\n\n");
-    let p = text(out, p, b"  nib demo                     two stations save at once, in words; no file is needed\n");
-    let p = text(out, p, b"  nib new DIR [PAGE]           makes a part folder: part T1, or the part of a parameter page\n");
-    let p = text(out, p, b"  nib run DIR < TRACE > REPLIES    runs a trace and puts the part back into the folder\n");
-    let p = text(out, p, b"  nib explain DIR < TRACE      the same in words, and the folder stays as it is\n");
-    let p = text(out, p, b"  nib text < TEXT > TRACE      a trace from text: c 80, a 00 00 37 00 00, d 3c, o 16, f 1, p 0, x 07, # ..\n");
-    let p = text(out, p, b"  nib text -d < TRACE > TEXT   and back\n");
-    let p = text(out, p, b"  nib page FILE                what a parameter page says, and what power-on would answer\n");
-    let p = text(out, p, b"  nib help                     this\n");
+    let p = text(out, p, b"  nib demo                   two stations save at once, told in words; needs no file\n");
+    let p = usage_files(out, p);
+    let p = usage_texts(out, p);
     flush(out, p);
 }
 
@@ -40,7 +44,8 @@ fn demonstrate(out: &mut Paper) {
     let mut registers = [0u8; 73728];
     let mut counts = [0u8; 262144];
     let flags = [0u8; 16384];
-    demo::tell(out, &mut array, &mut registers, &mut counts, &flags);
+    let page = t1();
+    demo::tell(out, &page, &mut array, &mut registers, &mut counts, &flags);
 }
 
 fn make_from(dir: &[u8], path: &[u8], page: &Page, device: u8, out: &mut Paper) {
@@ -53,9 +58,14 @@ fn make_from(dir: &[u8], path: &[u8], page: &Page, device: u8, out: &mut Paper) 
     }
 }
 
+fn new_t1(dir: &[u8], out: &mut Paper) {
+    let page = t1();
+    make_from(dir, b"T1", &page, T1_ID, out);
+}
+
 fn new_from(dir: &[u8], path: &[u8], out: &mut Paper) {
     let mut page = [0u8; 256];
-    if files::read_path(path, &mut page, 256) {
+    if shelf::files::read_path(path, &mut page, 256) {
         make_from(dir, path, &page, 0, out);
     }
 }
@@ -97,7 +107,7 @@ fn wrong(out: &mut Paper) {
 fn act(asked: Asked, second: &[u8], third: &[u8], out: &mut Paper) {
     match asked {
         Asked::Demo => demonstrate(out),
-        Asked::New => make_from(second, b"T1", &T1, T1_ID, out),
+        Asked::New => new_t1(second, out),
         Asked::NewFrom => new_from(second, third, out),
         Asked::Run => on_folder(true, second, out),
         Asked::Explain => on_folder(false, second, out),

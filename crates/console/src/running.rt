@@ -1,28 +1,28 @@
 // A trace as it comes, byte by byte: its replies as they are, or in words.
-use crate::part::Array;
-use crate::part::Counts;
-use crate::part::Flags;
-use crate::part::Page;
-use crate::part::Part;
-use crate::part::Registers;
-use crate::part::load;
-use crate::part::power;
-use crate::part::refuse;
-use crate::part::run_on;
-use crate::part::store;
-use crate::pen::Paper;
-use crate::pen::Pen;
-use crate::pen::begin;
-use crate::pen::end_line;
-use crate::pen::failed;
-use crate::pen::flush;
-use crate::pen::pad;
-use crate::pen::put;
-use crate::pen::ranked;
-use crate::pen::text;
-use crate::say::event;
-use crate::say::power_sentence;
-use crate::say::reply;
+use shelf::part::Array;
+use shelf::part::Counts;
+use shelf::part::Flags;
+use shelf::part::Page;
+use shelf::part::Part;
+use shelf::part::Registers;
+use shelf::part::load;
+use shelf::part::power;
+use shelf::part::refuse;
+use shelf::part::run_on;
+use shelf::part::store;
+use pens::pen::Paper;
+use pens::pen::Pen;
+use pens::pen::begin;
+use pens::pen::end_line;
+use pens::pen::failed;
+use pens::pen::flush;
+use pens::pen::pad;
+use pens::pen::put;
+use pens::pen::ranked;
+use pens::pen::text;
+use pens::say::event;
+use pens::say::power_sentence;
+use pens::say::reply;
 use libc::STDIN_FILENO;
 use libc::STDOUT_FILENO;
 use power::PowerAnswer;
@@ -45,7 +45,7 @@ pub struct Stream {
     pub going: bool,
 }
 
-pub fn stream(target: Target, pen: Pen, words: bool) -> Stream {
+pub fn set_out(target: Target, pen: Pen, words: bool) -> Stream {
     Stream {
         target,
         pen,
@@ -290,7 +290,11 @@ fn turn(
 pub fn left(turns: u64, going: bool) -> u64
     ensures { λ r. ⌜ (0 < turns → r < turns) ⌝ }
 {
-    if going & (0 < turns) { turns - 1 } else { 0 }
+    if going {
+        if 0 < turns { turns - 1 } else { 0 }
+    } else {
+        0
+    }
 }
 
 fn whole_input(
@@ -325,7 +329,7 @@ fn ran(
     counts: &mut Counts,
     flags: &Flags,
 ) -> bool {
-    let s = stream(t, p, words);
+    let s = set_out(t, p, words);
     let s = whole_input(s, out, part, page, array, registers, counts, flags);
     let p = s.pen;
     p.good

@@ -1,16 +1,16 @@
 // A trace from text, and back as text.
-use crate::pen::Paper;
-use crate::pen::Pen;
-use crate::pen::begin;
-use crate::pen::count;
-use crate::pen::failed;
-use crate::pen::flush;
-use crate::pen::number;
-use crate::pen::put;
-use crate::pen::small_hex;
-use crate::pen::text;
+use pens::pen::Paper;
+use pens::pen::Pen;
+use pens::pen::begin;
+use pens::pen::count;
+use pens::pen::failed;
+use pens::pen::flush;
+use pens::pen::number;
+use pens::pen::put;
+use pens::pen::small_hex;
+use pens::pen::text;
 use crate::running::left;
-use crate::say::with_number;
+use pens::say::with_number;
 use libc::STDERR_FILENO;
 use libc::STDIN_FILENO;
 use libc::STDOUT_FILENO;

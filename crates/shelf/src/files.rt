@@ -1,7 +1,7 @@
 // Files by folder and name. Each function that fails says so on standard error, in a line that names the file, and answers
 // false.
-use crate::pen::count;
-use crate::pen::failed;
+use pens::pen::count;
+use pens::pen::failed;
 use libc::STDERR_FILENO;
 
 pub type Path = [u8; 4096];

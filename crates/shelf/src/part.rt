@@ -5,15 +5,15 @@ use crate::files::read_whole;
 use crate::files::remove;
 use crate::files::rename;
 use crate::files::write_beside;
-use crate::pen::Paper;
-use crate::pen::begin;
-use crate::pen::count;
-use crate::pen::end_line;
-use crate::pen::failed;
-use crate::pen::flush;
-use crate::pen::text;
-use crate::say::power_sentence;
-use crate::say::with_number;
+use pens::pen::Paper;
+use pens::pen::begin;
+use pens::pen::count;
+use pens::pen::end_line;
+use pens::pen::failed;
+use pens::pen::flush;
+use pens::pen::text;
+use pens::say::power_sentence;
+use pens::say::with_number;
 use folder::Lengths;
 use folder::Plan;
 use folder::plan_of;
@@ -38,7 +38,7 @@ pub type Flags = [u8; 16384];
 pub type Page = [u8; 256];
 
 // T1's parameter page: 512+16 bytes, 4 pages, 8 blocks, 2 LUNs, every option.
-pub const T1: [u8; 256] = [
+const T1: [u8; 256] = [
     79,
     78,
     70,
@@ -296,6 +296,10 @@ pub const T1: [u8; 256] = [
     207,
     16,
 ];
+
+pub fn t1() -> Page {
+    T1
+}
 
 // T1's device ID.
 pub const T1_ID: u8 = 0x68;
