@@ -121,10 +121,10 @@ fn act(asked: Asked, second: &[u8], third: &[u8], out: &mut Paper) {
 
 // The program.
 pub fn nib() {
-    let mut out = io::large_buffer();
-    let mut first = io::buffer();
-    let mut second = io::buffer();
-    let mut third = io::buffer();
+    let mut out = [0u8; 65536];
+    let mut first = [0u8; 4096];
+    let mut second = [0u8; 4096];
+    let mut third = [0u8; 4096];
     let a = os::arg(1, &mut first);
     let b = os::arg(2, &mut second);
     let c = os::arg(3, &mut third);

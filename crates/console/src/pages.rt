@@ -1,11 +1,10 @@
 // What a parameter page says.
-use shelf::files::read_some;
 use pens::pen::Paper;
 use pens::pen::Pen;
 use pens::pen::begin;
 use pens::pen::byte;
-use pens::pen::count;
 use pens::pen::end_line;
+use pens::pen::failed;
 use pens::pen::flush;
 use pens::pen::number;
 use pens::pen::pad;
@@ -14,6 +13,7 @@ use pens::pen::text;
 use pens::pen::wide;
 use pens::say::power_sentence;
 use pens::say::with_number;
+use shelf::files::one_more;
 use cells::byte_at;
 use folder::Lengths;
 use folder::Plan;
@@ -193,12 +193,20 @@ fn fields(out: &mut Paper, p: Pen, page: &[u8]) -> Pen {
 
 // `nib page`.
 pub fn show_page(path: &[u8], out: &mut Paper) {
-    let mut page = [0u8; 4096];
-    let n = read_some(path, &mut page);
-    if 4096 < n {
+    let fd = os::open_read(path);
+    if fd < 0 {
+        failed(path);
         return;
     }
-    let n = count(n, &page);
+    let mut page = [0u8; 4096];
+    let n = io::read_full(fd, &mut page);
+    let more = one_more(fd);
+    if more < 0 {
+        failed(path);
+        libc::close(fd);
+        return;
+    }
+    libc::close(fd);
     let p = begin(STDOUT_FILENO);
     let p = fields(out, p, &page[..n]);
     flush(out, p);

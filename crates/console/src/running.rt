@@ -262,7 +262,7 @@ fn turn(
     counts: &mut Counts,
     flags: &Flags,
 ) -> Stream {
-    let mut chunk = io::buffer();
+    let mut chunk = [0u8; 4096];
     let got = libc::read(STDIN_FILENO, &mut chunk);
     if got < 0 {
         return unread(s);

@@ -114,7 +114,7 @@ fn reason_said(out: &mut Paper, p: Pen, said: Said) -> Pen {
 
 // The line on standard error that names a bad word.
 fn tell_wrong(line: usize, spot: Spot, word: &[u8], size: usize, said: Said) {
-    let mut out = io::large_buffer();
+    let mut out = [0u8; 65536];
     let n = count(size, word);
     let p = begin(STDERR_FILENO);
     let p = with_number(&mut out, p, b"nib: standard input, line ", line);
@@ -196,7 +196,7 @@ fn text_stopped(t: Text) -> Text {
 }
 
 fn text_turn(t: Text, out: &mut Paper, word: &mut Last) -> Text {
-    let mut chunk = io::buffer();
+    let mut chunk = [0u8; 4096];
     let got = libc::read(STDIN_FILENO, &mut chunk);
     if got < 0 {
         return text_stopped(t);
@@ -327,7 +327,7 @@ fn back_stopped(t: Back) -> Back {
 }
 
 fn back_turn(t: Back, out: &mut Paper) -> Back {
-    let mut chunk = io::buffer();
+    let mut chunk = [0u8; 4096];
     let got = libc::read(STDIN_FILENO, &mut chunk);
     if got < 0 {
         return back_stopped(t);

@@ -37,7 +37,7 @@ pub fn failed(path: &[u8]) {
 }
 
 // What waits goes out. After a write that failed, and was told of, nothing more is written.
-pub fn flush(out: &[u8], p: Pen) -> Pen {
+fn flush_front(out: &[u8], p: Pen) -> Pen {
     if !p.good {
         return Pen { n: 0, ..p };
     }
@@ -47,6 +47,10 @@ pub fn flush(out: &[u8], p: Pen) -> Pen {
         failed(b"standard output");
     }
     Pen { n: 0, good, ..p }
+}
+
+pub fn flush(out: &Paper, p: Pen) -> Pen {
+    flush_front(out, p)
 }
 
 fn column_after(column: usize, b: u8) -> usize {

@@ -3,6 +3,7 @@
 use pens::pen::count;
 use pens::pen::failed;
 use libc::STDERR_FILENO;
+ghost use Rattle.io.specs.Counts.{Counts};
 
 pub type Path = [u8; 4096];
 
@@ -27,10 +28,13 @@ fn append(path: &mut Path, from: usize, s: &[u8]) -> usize {
 }
 
 // DIR/NAME.
-fn join(path: &mut Path, dir: &[u8], name: &[u8]) -> usize {
+fn join(path: &mut Path, dir: &[u8], name: &[u8]) -> usize
+    ensures { λ r. ⌜ Counts r (now (path .exit)) ⌝ }
+{
     let n = append(path, 0, dir);
     let n = append_byte(path, n, b'/');
-    append(path, n, name)
+    let n = append(path, n, name);
+    count(n, path)
 }
 
 // A line of the program's own: the path, words, a number, words.
@@ -49,7 +53,7 @@ fn complain_of_length(path: &[u8], got: usize, due: usize) {
 }
 
 // One byte more of a file than was due: 1 if there is one, 0 if not, -1 where it can't be read.
-fn one_more(fd: i32) -> isize {
+pub fn one_more(fd: i32) -> isize {
     let mut more = [0u8; 1];
     libc::read(fd, &mut more)
 }
@@ -86,32 +90,9 @@ pub fn read_path(path: &[u8], dst: &mut [u8], due: usize) -> bool {
 
 // The first `due` bytes of `dst` become the file, which has just so many.
 pub fn read_whole(dir: &[u8], name: &[u8], dst: &mut [u8], due: usize) -> bool {
-    let mut path = io::buffer();
+    let mut path = [0u8; 4096];
     let n = join(&mut path, dir, name);
-    let n = count(n, &path);
     read_path(&path[..n], dst, due)
-}
-
-// What a file has, as far as `dst` goes; how much it is, or one more than that for nothing.
-pub fn read_some(path: &[u8], dst: &mut [u8]) -> usize {
-    let fd = os::open_read(path);
-    if fd < 0 {
-        failed(path);
-        return none(dst);
-    }
-    let n = io::read_full(fd, dst);
-    let more = one_more(fd);
-    if more < 0 {
-        failed(path);
-        libc::close(fd);
-        return none(dst);
-    }
-    libc::close(fd);
-    n
-}
-
-fn none(dst: &[u8]) -> usize {
-    if dst.len() < 1000000 { dst.len() + 1 } else { 0 }
 }
 
 fn write_open(fd: i32, path: &[u8], src: &[u8]) -> bool {
@@ -142,9 +123,8 @@ fn write_path(fd: i32, path: &[u8], src: &[u8]) -> bool {
 
 // A new file, whose name must not be taken.
 pub fn create(dir: &[u8], name: &[u8], src: &[u8], n: usize) -> bool {
-    let mut path = io::buffer();
+    let mut path = [0u8; 4096];
     let k = join(&mut path, dir, name);
-    let k = count(k, &path);
     let m = count(n, src);
     let fd = os::create(&path[..k]);
     write_path(fd, &path[..k], &src[..m])
@@ -152,29 +132,25 @@ pub fn create(dir: &[u8], name: &[u8], src: &[u8], n: usize) -> bool {
 
 // A file beside the one that is to be replaced; one of an earlier run that was cut off is written over.
 pub fn write_beside(dir: &[u8], name: &[u8], src: &[u8], n: usize) -> bool {
-    let mut path = io::buffer();
+    let mut path = [0u8; 4096];
     let k = join(&mut path, dir, name);
-    let k = count(k, &path);
     let m = count(n, src);
     let fd = os::open_overwrite(&path[..k]);
     write_path(fd, &path[..k], &src[..m])
 }
 
 pub fn remove(dir: &[u8], name: &[u8]) {
-    let mut path = io::buffer();
+    let mut path = [0u8; 4096];
     let k = join(&mut path, dir, name);
-    let k = count(k, &path);
     os::unlink(&path[..k]);
 }
 
 // The file takes the other name, and what had that name is gone.
 pub fn rename(dir: &[u8], from: &[u8], to: &[u8]) -> bool {
-    let mut old = io::buffer();
+    let mut old = [0u8; 4096];
     let k = join(&mut old, dir, from);
-    let k = count(k, &old);
-    let mut new = io::buffer();
+    let mut new = [0u8; 4096];
     let m = join(&mut new, dir, to);
-    let m = count(m, &new);
     if os::rename(&old[..k], &new[..m]) < 0 {
         failed(&new[..m]);
         return false;

@@ -326,7 +326,7 @@ pub fn no_part() -> Part {
 }
 
 pub fn refuse(path: &[u8], why: PowerRefusal) {
-    let mut out = io::large_buffer();
+    let mut out = [0u8; 65536];
     let p = begin(STDERR_FILENO);
     let p = text(&mut out, p, b"nib: ");
     let p = text(&mut out, p, path);
