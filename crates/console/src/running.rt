@@ -28,7 +28,7 @@ use libc::STDOUT_FILENO;
 use power::PowerAnswer;
 use target::Event;
 use target::Target;
-ghost use Prim.Native.Nat.{_<_};
+ghost use Prim.Native.Nat.{_-_, _≤_};
 
 // How far a trace has come.
 pub struct Stream {
@@ -288,7 +288,7 @@ fn turn(
 
 // How many turns are left: so many that no input has more, and none after its end.
 pub fn left(turns: u64, going: bool) -> u64
-    ensures { λ r. ⌜ (0 < turns → r < turns) ⌝ }
+    ensures { λ r. ⌜ r ≤ turns - 1 ⌝ }
 {
     if going {
         if 0 < turns { turns - 1 } else { 0 }
