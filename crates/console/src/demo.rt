@@ -21,6 +21,7 @@ use crate::running::bytes;
 use crate::running::set_out;
 use cells::byte_at;
 use cells::fill;
+use libc::STDIN_FILENO;
 use libc::STDOUT_FILENO;
 
 const RESET: [u8; 2] = [0, 0xff];
@@ -222,7 +223,7 @@ fn telling(
     let t = on.target;
     let p = begin(STDOUT_FILENO);
     let p = text(out, p, words);
-    let s = set_out(t, p, true);
+    let s = set_out(t, p, true, STDIN_FILENO);
     let s = told(
         s,
         b"The part is powered, and reset.",

@@ -7,16 +7,26 @@ pub mod texts;
 
 use asked::Asked;
 use asked::asked_of;
-use shelf::part::Page;
-use shelf::part::T1_ID;
-use shelf::part::make;
-use shelf::part::planned;
-use shelf::part::t1;
+use demo::tell;
+use pages::show_page;
 use pens::pen::Paper;
 use pens::pen::Pen;
 use pens::pen::begin;
 use pens::pen::flush;
 use pens::pen::text;
+use running::explain_folder;
+use running::run_folder;
+use shelf::files::read_path;
+use shelf::part::Array;
+use shelf::part::Counts;
+use shelf::part::Flags;
+use shelf::part::Page;
+use shelf::part::T1_ID;
+use shelf::part::make;
+use shelf::part::planned;
+use shelf::part::t1;
+use texts::from_text;
+use texts::to_text;
 
 fn usage_files(out: &mut Paper, p: Pen) -> Pen {
     let p = text(out, p, b"  nib new DIR [PAGE]         makes a part folder: part T1, or the part of a page\n");
@@ -39,81 +49,101 @@ fn usage(fd: i32, out: &mut Paper) {
     flush(out, p);
 }
 
-fn demonstrate(out: &mut Paper) {
-    let mut array = [0xffu8; 4194304];
-    let mut registers = [0u8; 73728];
-    let mut counts = [0u8; 262144];
-    let flags = [0u8; 16384];
-    let page = t1();
-    demo::tell(out, &page, &mut array, &mut registers, &mut counts, &flags);
-}
-
-fn make_from(dir: &[u8], path: &[u8], page: &Page, device: u8, out: &mut Paper) {
-    let array = [0xffu8; 4194304];
-    let counts = [0u8; 262144];
-    let flags = [0u8; 16384];
+fn make_new(
+    dir: &[u8],
+    path: &[u8],
+    page: &Page,
+    device: u8,
+    array: &Array,
+    counts: &Counts,
+    flags: &Flags,
+    out: &mut Paper,
+) {
     let part = planned(path, page, device);
     if part.good {
-        make(dir, page, part, &array, &counts, &flags, out);
+        make(dir, page, part, array, counts, flags, out);
     }
 }
 
-fn new_t1(dir: &[u8], out: &mut Paper) {
-    let page = t1();
-    make_from(dir, b"T1", &page, T1_ID, out);
-}
-
-fn new_from(dir: &[u8], path: &[u8], out: &mut Paper) {
-    let mut page = [0u8; 256];
-    if shelf::files::read_path(path, &mut page, 256) {
-        make_from(dir, path, &page, 0, out);
+// A page does not say its part's device ID: the folder's is 0 until its owner puts another.
+fn make_from(
+    dir: &[u8],
+    path: &[u8],
+    page: &mut Page,
+    array: &Array,
+    counts: &Counts,
+    flags: &Flags,
+    out: &mut Paper,
+) {
+    if read_path(path, page, 256) {
+        make_new(dir, path, page, 0, array, counts, flags, out);
     }
 }
 
-fn on_folder(run: bool, dir: &[u8], out: &mut Paper) {
-    let mut page = [0u8; 256];
+// The commands that have a part. Its buffers stand here alone, since the stack has no room for two sets.
+fn on_part(asked: Asked, second: &[u8], third: &[u8], input: i32, out: &mut Paper) {
+    let mut page = t1();
     let mut array = [0xffu8; 4194304];
     let mut registers = [0u8; 73728];
     let mut counts = [0u8; 262144];
     let mut flags = [0u8; 16384];
-    if run {
-        running::run_folder(
-            dir,
+    match asked {
+        Asked::Demo => tell(out, &page, &mut array, &mut registers, &mut counts, &flags),
+        Asked::New => make_new(
+            second,
+            b"T1",
+            &page,
+            T1_ID,
+            &array,
+            &counts,
+            &flags,
+            out,
+        ),
+        Asked::NewFrom => make_from(second, third, &mut page, &array, &counts, &flags, out),
+        Asked::Run => run_folder(
+            second,
+            input,
             out,
             &mut page,
             &mut array,
             &mut registers,
             &mut counts,
             &mut flags,
-        );
-    } else {
-        running::explain_folder(
-            dir,
+        ),
+        Asked::Explain => explain_folder(
+            second,
+            input,
             out,
             &mut page,
             &mut array,
             &mut registers,
             &mut counts,
             &mut flags,
-        );
+        ),
+        Asked::Text => {}
+        Asked::Back => {}
+        Asked::Page => {}
+        Asked::Help => {}
+        Asked::Wrong => {}
     }
 }
 
 fn wrong(out: &mut Paper) {
-    io::write_all(libc::STDERR_FILENO, b"nib: no such call\n\n");
+    io::write_all(libc::STDERR_FILENO, b"nib: no such call; these are:\n");
     usage(libc::STDERR_FILENO, out);
 }
 
-fn act(asked: Asked, second: &[u8], third: &[u8], out: &mut Paper) {
+// One command, over an input that is open.
+pub fn act(asked: Asked, second: &[u8], third: &[u8], input: i32, out: &mut Paper) {
     match asked {
-        Asked::Demo => demonstrate(out),
-        Asked::New => new_t1(second, out),
-        Asked::NewFrom => new_from(second, third, out),
-        Asked::Run => on_folder(true, second, out),
-        Asked::Explain => on_folder(false, second, out),
-        Asked::Text => texts::from_text(out),
-        Asked::Back => texts::to_text(out),
-        Asked::Page => pages::show_page(second, out),
+        Asked::Demo => on_part(asked, second, third, input, out),
+        Asked::New => on_part(asked, second, third, input, out),
+        Asked::NewFrom => on_part(asked, second, third, input, out),
+        Asked::Run => on_part(asked, second, third, input, out),
+        Asked::Explain => on_part(asked, second, third, input, out),
+        Asked::Text => from_text(input, out),
+        Asked::Back => to_text(input, out),
+        Asked::Page => show_page(second, out),
         Asked::Help => usage(libc::STDOUT_FILENO, out),
         Asked::Wrong => wrong(out),
     }
@@ -129,5 +159,11 @@ pub fn nib() {
     let b = os::arg(2, &mut second);
     let c = os::arg(3, &mut third);
     let asked = asked_of(os::arg_count(), &first[..a], &second[..b]);
-    act(asked, &second[..b], &third[..c], &mut out);
+    act(
+        asked,
+        &second[..b],
+        &third[..c],
+        libc::STDIN_FILENO,
+        &mut out,
+    );
 }

@@ -23,7 +23,6 @@ use pens::pen::text;
 use pens::say::event;
 use pens::say::power_sentence;
 use pens::say::reply;
-use libc::STDIN_FILENO;
 use libc::STDOUT_FILENO;
 use power::PowerAnswer;
 use target::Event;
@@ -41,11 +40,12 @@ pub struct Stream {
     // the first byte of a record has come, and this is it
     pub half: bool,
     pub first: u8,
+    pub input: i32,
     // there may be more to come
     pub going: bool,
 }
 
-pub fn set_out(target: Target, pen: Pen, words: bool) -> Stream {
+pub fn set_out(target: Target, pen: Pen, words: bool, input: i32) -> Stream {
     Stream {
         target,
         pen,
@@ -53,6 +53,7 @@ pub fn set_out(target: Target, pen: Pen, words: bool) -> Stream {
         number: 0,
         half: false,
         first: 0,
+        input,
         going: true,
     }
 }
@@ -263,7 +264,7 @@ fn turn(
     flags: &Flags,
 ) -> Stream {
     let mut chunk = [0u8; 4096];
-    let got = libc::read(STDIN_FILENO, &mut chunk);
+    let got = libc::read(s.input, &mut chunk);
     if got < 0 {
         return unread(s);
     }
@@ -320,6 +321,7 @@ fn whole_input(
 fn ran(
     t: Target,
     words: bool,
+    input: i32,
     p: Pen,
     out: &mut Paper,
     part: Part,
@@ -329,7 +331,7 @@ fn ran(
     counts: &mut Counts,
     flags: &Flags,
 ) -> bool {
-    let s = set_out(t, p, words);
+    let s = set_out(t, p, words, input);
     let s = whole_input(s, out, part, page, array, registers, counts, flags);
     let p = s.pen;
     p.good
@@ -351,6 +353,7 @@ fn tell_power(out: &mut Paper, p: Pen, answer: PowerAnswer) -> Pen {
 // `nib run`: only what was powered, read to its end and answered whole is stored.
 pub fn run_folder(
     dir: &[u8],
+    input: i32,
     out: &mut Paper,
     page: &mut Page,
     array: &mut Array,
@@ -370,7 +373,7 @@ pub fn run_folder(
         return;
     }
     let p = begin(STDOUT_FILENO);
-    if ran(t, false, p, out, part, page, array, registers, counts, flags) {
+    if ran(t, false, input, p, out, part, page, array, registers, counts, flags) {
         let l = part.lengths;
         store(dir, l, array, registers, counts);
     }
@@ -379,6 +382,7 @@ pub fn run_folder(
 // `nib explain`: nothing is stored. A part that power-on refuses is shown too, unpowered.
 pub fn explain_folder(
     dir: &[u8],
+    input: i32,
     out: &mut Paper,
     page: &mut Page,
     array: &mut Array,
@@ -395,5 +399,5 @@ pub fn explain_folder(
     let t = on.target;
     let p = begin(STDOUT_FILENO);
     let p = tell_power(out, p, answer);
-    ran(t, true, p, out, part, page, array, registers, counts, flags);
+    ran(t, true, input, p, out, part, page, array, registers, counts, flags);
 }

@@ -5,14 +5,13 @@ use pens::pen::begin;
 use pens::pen::count;
 use pens::pen::failed;
 use pens::pen::flush;
+use pens::pen::hex;
 use pens::pen::number;
 use pens::pen::put;
-use pens::pen::small_hex;
 use pens::pen::text;
 use crate::running::left;
 use pens::say::with_number;
 use libc::STDERR_FILENO;
-use libc::STDIN_FILENO;
 use libc::STDOUT_FILENO;
 use words::Kind;
 use words::reading::Reading;
@@ -42,10 +41,11 @@ pub struct Text {
     pub pen: Pen,
     // bytes of the last word
     pub size: usize,
+    pub input: i32,
     pub going: bool,
 }
 
-fn text_begun() -> Text {
+fn text_begun(input: i32) -> Text {
     let reading = begun();
     let spot = spot_begun();
     let pen = begin(STDOUT_FILENO);
@@ -54,6 +54,7 @@ fn text_begun() -> Text {
         spot,
         pen,
         size: 0,
+        input,
         going: true,
     }
 }
@@ -170,6 +171,7 @@ fn text_byte(t: Text, b: u8, out: &mut Paper, word: &mut Last) -> Text {
         pen,
         size,
         going: !wrong,
+        ..t
     }
 }
 
@@ -197,7 +199,7 @@ fn text_stopped(t: Text) -> Text {
 
 fn text_turn(t: Text, out: &mut Paper, word: &mut Last) -> Text {
     let mut chunk = [0u8; 4096];
-    let got = libc::read(STDIN_FILENO, &mut chunk);
+    let got = libc::read(t.input, &mut chunk);
     if got < 0 {
         return text_stopped(t);
     }
@@ -211,9 +213,9 @@ fn text_turn(t: Text, out: &mut Paper, word: &mut Last) -> Text {
 }
 
 // `nib text`. What stands before a bad word is written, and nothing after it.
-pub fn from_text(out: &mut Paper) {
+pub fn from_text(input: i32, out: &mut Paper) {
     let mut word = [0u8; 32];
-    let mut t = text_begun();
+    let mut t = text_begun(input);
     let mut turns: u64 = 18446744073709551615;
     while 0 < turns {
         t = text_turn(t, out, &mut word);
@@ -236,7 +238,7 @@ fn letter(out: &mut Paper, p: Pen, k: Kind) -> Pen {
 
 fn spaced(out: &mut Paper, p: Pen, b: u8) -> Pen {
     let p = put(out, p, b' ');
-    small_hex(out, p, b)
+    hex(out, p, b, b'a')
 }
 
 fn value(out: &mut Paper, p: Pen, v: Value) -> Pen {
@@ -280,6 +282,7 @@ fn piece_written(out: &mut Paper, p: Pen, piece: Piece) -> Pen {
 pub struct Back {
     pub writing: Writing,
     pub pen: Pen,
+    pub input: i32,
     pub going: bool,
 }
 
@@ -328,7 +331,7 @@ fn back_stopped(t: Back) -> Back {
 
 fn back_turn(t: Back, out: &mut Paper) -> Back {
     let mut chunk = [0u8; 4096];
-    let got = libc::read(STDIN_FILENO, &mut chunk);
+    let got = libc::read(t.input, &mut chunk);
     if got < 0 {
         return back_stopped(t);
     }
@@ -341,19 +344,20 @@ fn back_turn(t: Back, out: &mut Paper) -> Back {
     back_flushed(t, out, true)
 }
 
-fn back_begun() -> Back {
+fn back_begun(input: i32) -> Back {
     let writing = writing_begun();
     let pen = begin(STDOUT_FILENO);
     Back {
         writing,
         pen,
+        input,
         going: true,
     }
 }
 
 // `nib text -d`.
-pub fn to_text(out: &mut Paper) {
-    let mut t = back_begun();
+pub fn to_text(input: i32, out: &mut Paper) {
+    let mut t = back_begun(input);
     let mut turns: u64 = 18446744073709551615;
     while 0 < turns {
         t = back_turn(t, out);

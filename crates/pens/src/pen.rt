@@ -127,34 +127,26 @@ pub fn ranked(out: &mut Paper, p: Pen, n: usize) -> Pen {
     text(out, q, &digits[..k])
 }
 
-fn digit(d: u8) -> u8 {
-    if d < 10 { b'0' + d } else { b'A' + (d - 10) % 16 }
-}
-
-fn small_digit(d: u8) -> u8 {
-    if d < 10 { b'0' + d } else { b'a' + (d - 10) % 16 }
+// A hex digit; `ten` is the letter for ten.
+fn digit(d: u8, ten: u8) -> u8 {
+    if d < 10 { b'0' + d } else { ten % 128 + (d - 10) % 16 }
 }
 
 // A byte as two hex digits.
-pub fn hex(out: &mut Paper, p: Pen, b: u8) -> Pen {
-    let p = put(out, p, digit(b / 16));
-    put(out, p, digit(b % 16))
-}
-
-pub fn small_hex(out: &mut Paper, p: Pen, b: u8) -> Pen {
-    let p = put(out, p, small_digit(b / 16));
-    put(out, p, small_digit(b % 16))
+pub fn hex(out: &mut Paper, p: Pen, b: u8, ten: u8) -> Pen {
+    let p = put(out, p, digit(b / 16, ten));
+    put(out, p, digit(b % 16, ten))
 }
 
 // A byte as the requirements write it, as 3Ch.
 pub fn byte(out: &mut Paper, p: Pen, b: u8) -> Pen {
-    let p = hex(out, p, b);
+    let p = hex(out, p, b, b'A');
     put(out, p, b'h')
 }
 
 // Two bytes likewise, as 0102h.
 pub fn wide(out: &mut Paper, p: Pen, n: u16) -> Pen {
-    let p = hex(out, p, (n / 256) as u8);
+    let p = hex(out, p, (n / 256) as u8, b'A');
     byte(out, p, (n % 256) as u8)
 }
 

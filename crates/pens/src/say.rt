@@ -56,9 +56,9 @@ pub fn with_number(out: &mut Paper, p: Pen, words: &[u8], n: usize) -> Pen {
 
 fn bad_record(out: &mut Paper, p: Pen, kind: u8, value: u8) -> Pen {
     let p = text(out, p, b"bytes ");
-    let p = hex(out, p, kind);
+    let p = hex(out, p, kind, b'A');
     let p = put(out, p, b' ');
-    hex(out, p, value)
+    hex(out, p, value, b'A')
 }
 
 fn line_to(out: &mut Paper, p: Pen, value: u8) -> Pen {
@@ -188,7 +188,7 @@ pub fn sentence(out: &mut Paper, p: Pen, number: u8, t: Target, e: Event) -> Pen
         9 => text(out, p, b"a feature byte that is not offered"),
         10 => not_working(out, p, t, e),
         11 => text(out, p, b"a LUN is working or a sequence is open"),
-        12 => text(out, p, b"no record"),
+        12 => text(out, p, b"not a record"),
         13 => text(out, p, b"the target is not powered"),
         _ => p,
     }
