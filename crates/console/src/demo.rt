@@ -200,13 +200,14 @@ fn story(
     registers: &mut Registers,
     counts: &mut Counts,
     flags: &Flags,
-) {
+) -> Pen {
     let s = save_at_once(s, out, part, page, array, registers, counts, flags);
     let s = look_again(s, out, part, page, array, registers, counts, flags);
-    presets(s, out, array, registers);
+    presets(s, out, array, registers)
 }
 
 fn telling(
+    p: Pen,
     words: &[u8],
     first: &[u8],
     out: &mut Paper,
@@ -216,12 +217,11 @@ fn telling(
     registers: &mut Registers,
     counts: &mut Counts,
     flags: &Flags,
-) {
+) -> Pen {
     fill(array, 0xff);
     fill(counts, 0);
     let on = power(part, page, array, registers, counts, flags);
     let t = on.target;
-    let p = begin(STDOUT_FILENO);
     let p = text(out, p, words);
     let s = set_out(t, p, true, STDIN_FILENO);
     let s = told(
@@ -237,7 +237,7 @@ fn telling(
         flags,
     );
     let s = bytes(s, first, out, part, page, array, registers, counts, flags);
-    story(s, out, part, page, array, registers, counts, flags);
+    story(s, out, part, page, array, registers, counts, flags)
 }
 
 pub fn tell(
@@ -249,7 +249,8 @@ pub fn tell(
     flags: &Flags,
 ) {
     let part = planned(b"T1", page, T1_ID);
-    telling(
+    let p = telling(
+        begin(STDOUT_FILENO),
         b"== Program-clear on: 80h clears the register of the LUN that it names.\n",
         &CLEAR_ON,
         out,
@@ -261,6 +262,7 @@ pub fn tell(
         flags,
     );
     telling(
+        p,
         b"\n== Program-clear off: 80h clears every register.\n",
         b"",
         out,

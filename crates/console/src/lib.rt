@@ -1,5 +1,4 @@
 // nib, the bench at the command line: all of the program, so that it and the programs that try its commands are one call each.
-pub mod asked;
 pub mod demo;
 pub mod pages;
 pub mod running;

@@ -174,6 +174,7 @@ fn most_luns(page: &[u8]) -> usize {
 
 // Field by field, and what power-on would answer.
 fn fields(out: &mut Paper, p: Pen, page: &[u8]) -> Pen {
+    let p = within(out, p, b"length", page.len(), 256, 256);
     let p = lettered(out, p, b"signature", page, 0, 4);
     let p = feature_words(out, p, page);
     let p = optional_words(out, p, page);
