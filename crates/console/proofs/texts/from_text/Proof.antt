@@ -5,10 +5,10 @@ use Rattle.console.proofs.texts.from_text.Statement.{statement}
 use Rattle.console.proofs.texts.from_text.Tie as tie
 
 abbrev Inv-loop : tie.InvT-loop
-Inv-loop out₀ word₀ t₀ turns₀ out word t turns = Unit {0}
+Inv-loop input out₀ word₀ t₀ turns₀ out word t turns = Unit {0}
 
 abbrev μ-loop : tie.MeasureT-loop
-μ-loop out₀ word₀ t₀ turns₀ out word t turns = turns
+μ-loop input out₀ word₀ t₀ turns₀ out word t turns = turns
 
 text-begun-requires : tie.Need-text-begun-requires Inv-loop μ-loop
 text-begun-requires c κs = tt

@@ -5,10 +5,10 @@ use Rattle.console.proofs.texts.to_text.Statement.{statement}
 use Rattle.console.proofs.texts.to_text.Tie as tie
 
 abbrev Inv-loop : tie.InvT-loop
-Inv-loop out₀ t₀ turns₀ out t turns = Unit {0}
+Inv-loop input out₀ t₀ turns₀ out t turns = Unit {0}
 
 abbrev μ-loop : tie.MeasureT-loop
-μ-loop out₀ t₀ turns₀ out t turns = turns
+μ-loop input out₀ t₀ turns₀ out t turns = turns
 
 back-begun-requires : tie.Need-back-begun-requires Inv-loop μ-loop
 back-begun-requires c κs = tt
