@@ -1,4 +1,19 @@
 // `nib demo`: two stations save a preset at once, on part T1 in memory, with program-clear on and then off.
+use crate::running::Stream;
+use crate::running::bytes;
+use crate::running::set_out;
+use cells::byte_at;
+use cells::fill;
+use libc::STDIN_FILENO;
+use libc::STDOUT_FILENO;
+use pens::pen::Paper;
+use pens::pen::Pen;
+use pens::pen::begin;
+use pens::pen::byte;
+use pens::pen::end_line;
+use pens::pen::flush;
+use pens::pen::put;
+use pens::pen::text;
 use shelf::part::Array;
 use shelf::part::Counts;
 use shelf::part::Flags;
@@ -8,61 +23,167 @@ use shelf::part::Registers;
 use shelf::part::T1_ID;
 use shelf::part::planned;
 use shelf::part::power;
-use pens::pen::Paper;
-use pens::pen::Pen;
-use pens::pen::begin;
-use pens::pen::byte;
-use pens::pen::end_line;
-use pens::pen::flush;
-use pens::pen::put;
-use pens::pen::text;
-use crate::running::Stream;
-use crate::running::bytes;
-use crate::running::set_out;
-use cells::byte_at;
-use cells::fill;
-use libc::STDIN_FILENO;
-use libc::STDOUT_FILENO;
 
-const RESET: [u8; 2] = [0, 0xff];
-
-// Feature 01h: program-clear.
-const CLEAR_ON: [u8; 12] = [0, 0xef, 1, 1, 2, 0x40, 2, 0, 2, 0, 2, 0];
-
-// A programs 3Ch A5h at the start of row 0, of LUN 0, which then works.
-const A_SAVES: [u8; 18] = [
-    0, 0x80, 1, 0, 1, 0, 1, 0, 1, 0, 1, 0, 2, 0x3c, 2, 0xa5, 0, 0x10,
+// The records of the eight scenes, one after the other.
+// 0: reset. 1: feature 01h, program-clear on.
+// 2: A programs 3Ch A5h at the start of row 0, of LUN 0.
+// 3: B programs C3h at column 7 of row 32, of LUN 1.
+// 4: A asks for B's register. 5: the finish of LUN 0. 6: A reads its register.
+// 7: the finish of LUN 1, and its status.
+const RECORDS: [u8; 98] = [
+    0,
+    255,
+    0,
+    239,
+    1,
+    1,
+    2,
+    64,
+    2,
+    0,
+    2,
+    0,
+    2,
+    0,
+    0,
+    128,
+    1,
+    0,
+    1,
+    0,
+    1,
+    0,
+    1,
+    0,
+    1,
+    0,
+    2,
+    60,
+    2,
+    165,
+    0,
+    16,
+    0,
+    128,
+    1,
+    0,
+    1,
+    0,
+    1,
+    32,
+    1,
+    0,
+    1,
+    0,
+    0,
+    133,
+    1,
+    7,
+    1,
+    0,
+    2,
+    195,
+    0,
+    16,
+    0,
+    6,
+    1,
+    0,
+    1,
+    0,
+    1,
+    32,
+    1,
+    0,
+    1,
+    0,
+    4,
+    0,
+    0,
+    6,
+    1,
+    0,
+    1,
+    0,
+    1,
+    0,
+    1,
+    0,
+    1,
+    0,
+    0,
+    224,
+    3,
+    0,
+    3,
+    0,
+    4,
+    1,
+    0,
+    120,
+    1,
+    32,
+    1,
+    0,
+    1,
+    0,
+    3,
+    0,
 ];
 
-// B programs C3h at column 7 of row 32, of LUN 1.
-const B_SAVES: [u8; 22] = [
-    0, 0x80, 1, 0, 1, 0, 1, 32, 1, 0, 1, 0, 0, 0x85, 1, 7, 1, 0, 2, 0xc3, 0, 0x10,
-];
-
-const A_READY: [u8; 2] = [4, 0];
-
-// A reads its register out again.
-const A_READS: [u8; 18] = [
-    0, 0x06, 1, 0, 1, 0, 1, 0, 1, 0, 1, 0, 0, 0xe0, 3, 0, 3, 0,
-];
-
-// A asks for B's register while B's LUN works.
-const A_TRIES: [u8; 12] = [0, 0x06, 1, 0, 1, 0, 1, 32, 1, 0, 1, 0];
-
-// B's LUN is done, and B asks for its status.
-const B_READY: [u8; 12] = [4, 1, 0, 0x78, 1, 32, 1, 0, 1, 0, 3, 0];
-
-fn heading(s: Stream, out: &mut Paper, words: &[u8]) -> Stream {
-    let p = s.pen;
-    let p = end_line(out, p);
-    let p = text(out, p, words);
-    let pen = end_line(out, p);
-    Stream { pen, ..s }
+// The byte that a scene begins with; the one after the last ends there.
+fn start_of(scene: usize) -> usize {
+    match scene {
+        0 => 0,
+        1 => 2,
+        2 => 14,
+        3 => 32,
+        4 => 54,
+        5 => 66,
+        6 => 68,
+        7 => 86,
+        _ => 98,
+    }
 }
 
-fn told(
+fn heading(out: &mut Paper, p: Pen, scene: usize) -> Pen {
+    match scene {
+        0 => text(out, p, b"\nThe part is powered, and reset.\n"),
+        1 => text(out, p, b"\nFeature 01h: program-clear on.\n"),
+        2 => text(
+            out,
+            p,
+            b"\nStation A saves its preset, 3Ch A5h, in LUN 0.\n",
+        ),
+        3 => text(
+            out,
+            p,
+            b"\nWhile LUN 0 works, station B saves its own, C3h at column 7, in LUN 1.\n",
+        ),
+        4 => text(out, p, b"\nA asks for B's register too early.\n"),
+        5 => text(out, p, b"\nLUN 0 comes to its end.\n"),
+        6 => text(out, p, b"\nA reads its register again, to compare.\n"),
+        _ => text(
+            out,
+            p,
+            b"\nLUN 1 comes to its end, and B asks for its status.\n",
+        ),
+    }
+}
+
+fn stretch(s: &[u8], from: usize, to: usize) -> &[u8] {
+    if from <= to {
+        if to <= s.len() {
+            return &s[from..to];
+        }
+    }
+    &s[..0]
+}
+
+// A scene: its heading, and its records one by one.
+fn scene(
     s: Stream,
-    words: &[u8],
+    k: usize,
     records: &[u8],
     out: &mut Paper,
     part: Part,
@@ -72,60 +193,14 @@ fn told(
     counts: &mut Counts,
     flags: &Flags,
 ) -> Stream {
-    let s = heading(s, out, words);
-    bytes(s, records, out, part, page, array, registers, counts, flags)
-}
-
-fn save_at_once(
-    s: Stream,
-    out: &mut Paper,
-    part: Part,
-    page: &Page,
-    array: &mut Array,
-    registers: &mut Registers,
-    counts: &mut Counts,
-    flags: &Flags,
-) -> Stream {
-    let s = told(
-        s,
-        b"Station A saves its preset, 3Ch A5h, in LUN 0.",
-        &A_SAVES,
-        out,
-        part,
-        page,
-        array,
-        registers,
-        counts,
-        flags,
-    );
-    let s = told(
-        s,
-        b"While LUN 0 works, station B saves its own, C3h at column 7, in LUN 1.",
-        &B_SAVES,
-        out,
-        part,
-        page,
-        array,
-        registers,
-        counts,
-        flags,
-    );
-    let s = told(
-        s,
-        b"A asks for B's register too early.",
-        &A_TRIES,
-        out,
-        part,
-        page,
-        array,
-        registers,
-        counts,
-        flags,
-    );
-    told(
-        s,
-        b"LUN 0 comes to its end.",
-        &A_READY,
+    let p = s.pen;
+    let pen = heading(out, p, k);
+    let from = start_of(k);
+    let to = start_of(k % 8 + 1);
+    let these = stretch(records, from, to);
+    bytes(
+        Stream { pen, ..s },
+        these,
         out,
         part,
         page,
@@ -136,8 +211,16 @@ fn save_at_once(
     )
 }
 
-fn look_again(
+// Program-clear stays off where scene 1 is left out.
+fn is_played(k: usize, on: bool) -> bool {
+    on | !(k == 1)
+}
+
+fn played(
     s: Stream,
+    k: usize,
+    on: bool,
+    records: &[u8],
     out: &mut Paper,
     part: Part,
     page: &Page,
@@ -146,30 +229,55 @@ fn look_again(
     counts: &mut Counts,
     flags: &Flags,
 ) -> Stream {
-    let s = told(
-        s,
-        b"A reads its register again, to compare.",
-        &A_READS,
-        out,
-        part,
-        page,
-        array,
-        registers,
-        counts,
-        flags,
-    );
-    told(
-        s,
-        b"LUN 1 comes to its end, and B asks for its status.",
-        &B_READY,
-        out,
-        part,
-        page,
-        array,
-        registers,
-        counts,
-        flags,
-    )
+    if is_played(k, on) {
+        scene(
+            s,
+            k,
+            records,
+            out,
+            part,
+            page,
+            array,
+            registers,
+            counts,
+            flags,
+        )
+    } else {
+        s
+    }
+}
+
+fn scenes(
+    from: Stream,
+    on: bool,
+    records: &[u8],
+    out: &mut Paper,
+    part: Part,
+    page: &Page,
+    array: &mut Array,
+    registers: &mut Registers,
+    counts: &mut Counts,
+    flags: &Flags,
+) -> Pen {
+    let mut s = from;
+    let mut k: usize = 0;
+    while k < 8 {
+        s = played(
+            s,
+            k,
+            on,
+            records,
+            out,
+            part,
+            page,
+            array,
+            registers,
+            counts,
+            flags,
+        );
+        k += 1;
+    }
+    s.pen
 }
 
 fn two_bytes(out: &mut Paper, p: Pen, words: &[u8], s: &[u8], at: usize, next: usize) -> Pen {
@@ -181,53 +289,47 @@ fn two_bytes(out: &mut Paper, p: Pen, words: &[u8], s: &[u8], at: usize, next: u
 }
 
 // What each preset holds at the end: row 0 is the array's first page, row 32 lies 16,896 bytes on.
-fn presets(s: Stream, out: &mut Paper, array: &Array, registers: &Registers) -> Pen {
-    let p = s.pen;
-    let p = end_line(out, p);
-    let p = two_bytes(out, p, b"A's register   ", registers, 0, 1);
+fn presets(out: &mut Paper, p: Pen, array: &Array, registers: &Registers) -> Pen {
+    let p = two_bytes(out, p, b"\nA's register   ", registers, 0, 1);
     let p = two_bytes(out, p, b"A's preset     ", array, 0, 1);
     let p = two_bytes(out, p, b"B's preset     ", array, 16903, 16904);
     flush(out, p)
 }
 
-// The story after its first cycles.
-fn story(
-    s: Stream,
-    out: &mut Paper,
-    part: Part,
-    page: &Page,
-    array: &mut Array,
-    registers: &mut Registers,
-    counts: &mut Counts,
-    flags: &Flags,
-) -> Pen {
-    let s = save_at_once(s, out, part, page, array, registers, counts, flags);
-    let s = look_again(s, out, part, page, array, registers, counts, flags);
-    presets(s, out, array, registers)
-}
-
-fn telling(
+// A part just powered.
+fn fresh(
     p: Pen,
-    words: &[u8],
-    first: &[u8],
-    out: &mut Paper,
     part: Part,
     page: &Page,
     array: &mut Array,
     registers: &mut Registers,
     counts: &mut Counts,
     flags: &Flags,
-) -> Pen {
+) -> Stream {
     fill(array, 0xff);
     fill(counts, 0);
     let on = power(part, page, array, registers, counts, flags);
     let t = on.target;
-    let p = text(out, p, words);
-    let s = set_out(t, p, true, STDIN_FILENO);
-    let s = told(
+    set_out(t, p, true, STDIN_FILENO)
+}
+
+fn telling(
+    p: Pen,
+    on: bool,
+    records: &[u8],
+    out: &mut Paper,
+    page: &Page,
+    array: &mut Array,
+    registers: &mut Registers,
+    counts: &mut Counts,
+    flags: &Flags,
+) -> Pen {
+    let part = planned(b"T1", page, T1_ID);
+    let s = fresh(p, part, page, array, registers, counts, flags);
+    let p = scenes(
         s,
-        b"The part is powered, and reset.",
-        &RESET,
+        on,
+        records,
         out,
         part,
         page,
@@ -236,8 +338,7 @@ fn telling(
         counts,
         flags,
     );
-    let s = bytes(s, first, out, part, page, array, registers, counts, flags);
-    story(s, out, part, page, array, registers, counts, flags)
+    presets(out, p, array, registers)
 }
 
 pub fn tell(
@@ -248,25 +349,34 @@ pub fn tell(
     counts: &mut Counts,
     flags: &Flags,
 ) {
-    let part = planned(b"T1", page, T1_ID);
-    let p = telling(
-        begin(STDOUT_FILENO),
-        b"== Program-clear on: 80h clears the register of the LUN that it names.\n",
-        &CLEAR_ON,
+    let records = RECORDS;
+    let p = begin(STDOUT_FILENO);
+    let p = text(
         out,
-        part,
+        p,
+        b"== Program-clear on: 80h clears the register of the LUN that it names.\n",
+    );
+    let p = telling(
+        p,
+        true,
+        &records,
+        out,
         page,
         array,
         registers,
         counts,
         flags,
     );
-    telling(
+    let p = text(
+        out,
         p,
         b"\n== Program-clear off: 80h clears every register.\n",
-        b"",
+    );
+    telling(
+        p,
+        false,
+        &records,
         out,
-        part,
         page,
         array,
         registers,

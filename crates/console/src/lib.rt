@@ -13,8 +13,7 @@ use pens::pen::Pen;
 use pens::pen::begin;
 use pens::pen::flush;
 use pens::pen::text;
-use running::explain_folder;
-use running::run_folder;
+use running::on_folder;
 use shelf::files::read_path;
 use shelf::part::Array;
 use shelf::part::Counts;
@@ -28,21 +27,45 @@ use texts::from_text;
 use texts::to_text;
 
 fn usage_files(out: &mut Paper, p: Pen) -> Pen {
-    let p = text(out, p, b"  nib new DIR [PAGE]         makes a part folder: part T1, or the part of a page\n");
-    let p = text(out, p, b"  nib run DIR < TRACE        replies on standard output; the folder is brought up to date\n");
-    let p = text(out, p, b"  nib explain DIR < TRACE    the same in words; the folder stays as it is\n");
-    text(out, p, b"  nib page FILE              what a parameter page says, and power-on's answer\n")
+    let p = text(
+        out,
+        p,
+        b"  nib new DIR [PAGE]         makes a part folder: part T1, or the part of a page\n",
+    );
+    let p = text(
+        out,
+        p,
+        b"  nib run DIR < TRACE        replies on standard output; the folder is brought up to date\n",
+    );
+    let p = text(
+        out,
+        p,
+        b"  nib explain DIR < TRACE    the same in words; the folder stays as it is\n",
+    );
+    text(
+        out,
+        p,
+        b"  nib page FILE              what a parameter page says, and power-on's answer\n",
+    )
 }
 
 fn usage_texts(out: &mut Paper, p: Pen) -> Pen {
-    let p = text(out, p, b"  nib text < TEXT > TRACE    a trace from text, as: c 80  a 00 00 37 00 00  d 3c  o 16  f 1  p 0\n");
+    let p = text(
+        out,
+        p,
+        b"  nib text < TEXT > TRACE    a trace from text, as: c 80  a 00 00 37 00 00  d 3c  o 16  f 1  p 0\n",
+    );
     let p = text(out, p, b"  nib text -d < TRACE        a trace as text\n");
     text(out, p, b"  nib help                   these lines\n")
 }
 
 fn usage(fd: i32, out: &mut Paper) {
     let p = begin(fd);
-    let p = text(out, p, b"  nib demo                   two stations save at once, told in words; needs no file\n");
+    let p = text(
+        out,
+        p,
+        b"  nib demo                   two stations save at once, told in words; needs no file\n",
+    );
     let p = usage_files(out, p);
     let p = usage_texts(out, p);
     flush(out, p);
@@ -79,7 +102,8 @@ fn make_from(
     }
 }
 
-// The commands that have a part. Its buffers stand here alone, since the stack has no room for two sets.
+// The commands that have a part. Its buffers stand here alone, and this is called in one place, since the stack has no room for
+// two sets.
 fn on_part(asked: Asked, second: &[u8], third: &[u8], input: i32, out: &mut Paper) {
     let mut page = t1();
     let mut array = [0xffu8; 4194304];
@@ -88,19 +112,11 @@ fn on_part(asked: Asked, second: &[u8], third: &[u8], input: i32, out: &mut Pape
     let mut flags = [0u8; 16384];
     match asked {
         Asked::Demo => tell(out, &page, &mut array, &mut registers, &mut counts, &flags),
-        Asked::New => make_new(
-            second,
-            b"T1",
-            &page,
-            T1_ID,
-            &array,
-            &counts,
-            &flags,
-            out,
-        ),
+        Asked::New => make_new(second, b"T1", &page, T1_ID, &array, &counts, &flags, out),
         Asked::NewFrom => make_from(second, third, &mut page, &array, &counts, &flags, out),
-        Asked::Run => run_folder(
+        Asked::Run => on_folder(
             second,
+            false,
             input,
             out,
             &mut page,
@@ -109,8 +125,9 @@ fn on_part(asked: Asked, second: &[u8], third: &[u8], input: i32, out: &mut Pape
             &mut counts,
             &mut flags,
         ),
-        Asked::Explain => explain_folder(
+        Asked::Explain => on_folder(
             second,
+            true,
             input,
             out,
             &mut page,
@@ -132,19 +149,42 @@ fn wrong(out: &mut Paper) {
     usage(libc::STDERR_FILENO, out);
 }
 
-// One command, over an input that is open.
-pub fn act(asked: Asked, second: &[u8], third: &[u8], input: i32, out: &mut Paper) {
+fn has_part(asked: Asked) -> bool {
     match asked {
-        Asked::Demo => on_part(asked, second, third, input, out),
-        Asked::New => on_part(asked, second, third, input, out),
-        Asked::NewFrom => on_part(asked, second, third, input, out),
-        Asked::Run => on_part(asked, second, third, input, out),
-        Asked::Explain => on_part(asked, second, third, input, out),
+        Asked::Demo => true,
+        Asked::New => true,
+        Asked::NewFrom => true,
+        Asked::Run => true,
+        Asked::Explain => true,
+        Asked::Text => false,
+        Asked::Back => false,
+        Asked::Page => false,
+        Asked::Help => false,
+        Asked::Wrong => false,
+    }
+}
+
+fn without_part(asked: Asked, second: &[u8], input: i32, out: &mut Paper) {
+    match asked {
+        Asked::Demo => {}
+        Asked::New => {}
+        Asked::NewFrom => {}
+        Asked::Run => {}
+        Asked::Explain => {}
         Asked::Text => from_text(input, out),
         Asked::Back => to_text(input, out),
         Asked::Page => show_page(second, out),
         Asked::Help => usage(libc::STDOUT_FILENO, out),
         Asked::Wrong => wrong(out),
+    }
+}
+
+// One command, over an input that is open.
+pub fn act(asked: Asked, second: &[u8], third: &[u8], input: i32, out: &mut Paper) {
+    if has_part(asked) {
+        on_part(asked, second, third, input, out)
+    } else {
+        without_part(asked, second, input, out)
     }
 }
 

@@ -1,19 +1,4 @@
 // What a parameter page says.
-use pens::pen::Paper;
-use pens::pen::Pen;
-use pens::pen::begin;
-use pens::pen::byte;
-use pens::pen::end_line;
-use pens::pen::failed;
-use pens::pen::flush;
-use pens::pen::number;
-use pens::pen::pad;
-use pens::pen::put;
-use pens::pen::text;
-use pens::pen::wide;
-use pens::say::power_sentence;
-use pens::say::with_number;
-use shelf::files::one_more;
 use cells::byte_at;
 use folder::Lengths;
 use folder::Plan;
@@ -32,6 +17,21 @@ use page::fields::pages_a_block;
 use page::fields::programs_a_page;
 use page::fields::spare_bytes;
 use page::fields::stored_crc;
+use pens::pen::Paper;
+use pens::pen::Pen;
+use pens::pen::begin;
+use pens::pen::byte;
+use pens::pen::end_line;
+use pens::pen::failed;
+use pens::pen::flush;
+use pens::pen::number;
+use pens::pen::pad;
+use pens::pen::put;
+use pens::pen::text;
+use pens::pen::wide;
+use pens::say::power_sentence;
+use pens::say::with_number;
+use shelf::files::one_more;
 
 fn label(out: &mut Paper, p: Pen, words: &[u8]) -> Pen {
     let p = text(out, p, words);
@@ -77,11 +77,7 @@ fn lettered(out: &mut Paper, p: Pen, words: &[u8], page: &[u8], from: usize, to:
 
 // What a bit that is 1 stands for.
 fn named_bit(out: &mut Paper, p: Pen, x: u16, k: u16, words: &[u8]) -> Pen {
-    if bit_of(x, k) {
-        text(out, p, words)
-    } else {
-        p
-    }
+    if bit_of(x, k) { text(out, p, words) } else { p }
 }
 
 fn feature_words(out: &mut Paper, p: Pen, page: &[u8]) -> Pen {

@@ -1,15 +1,5 @@
 // A trace as it comes, byte by byte: its replies as they are, or in words.
-use shelf::part::Array;
-use shelf::part::Counts;
-use shelf::part::Flags;
-use shelf::part::Page;
-use shelf::part::Part;
-use shelf::part::Registers;
-use shelf::part::load;
-use shelf::part::power;
-use shelf::part::refuse;
-use shelf::part::run_on;
-use shelf::part::store;
+use libc::STDOUT_FILENO;
 use pens::pen::Paper;
 use pens::pen::Pen;
 use pens::pen::begin;
@@ -23,8 +13,18 @@ use pens::pen::text;
 use pens::say::event;
 use pens::say::power_sentence;
 use pens::say::reply;
-use libc::STDOUT_FILENO;
 use power::PowerAnswer;
+use shelf::part::Array;
+use shelf::part::Counts;
+use shelf::part::Flags;
+use shelf::part::Page;
+use shelf::part::Part;
+use shelf::part::Registers;
+use shelf::part::load;
+use shelf::part::power;
+use shelf::part::refuse;
+use shelf::part::run_on;
+use shelf::part::store;
 use target::Event;
 use target::Target;
 ghost use Prim.Native.Nat.{_-_, _≤_};
@@ -76,14 +76,7 @@ fn explained(
     end_line(out, p)
 }
 
-fn replied(
-    out: &mut Paper,
-    s: Stream,
-    number: usize,
-    odd: bool,
-    e: Event,
-    room: [u8; 2],
-) -> Pen {
+fn replied(out: &mut Paper, s: Stream, number: usize, odd: bool, e: Event, room: [u8; 2]) -> Pen {
     let p = s.pen;
     let t = s.target;
     if s.words {
@@ -322,7 +315,6 @@ fn ran(
     t: Target,
     words: bool,
     input: i32,
-    p: Pen,
     out: &mut Paper,
     part: Part,
     page: &Page,
@@ -331,7 +323,7 @@ fn ran(
     counts: &mut Counts,
     flags: &Flags,
 ) -> bool {
-    let s = set_out(t, p, words, input);
+    let s = set_out(t, begin(STDOUT_FILENO), words, input);
     let s = whole_input(s, out, part, page, array, registers, counts, flags);
     let p = s.pen;
     p.good
@@ -350,38 +342,28 @@ fn tell_power(out: &mut Paper, p: Pen, answer: PowerAnswer) -> Pen {
     end_line(out, p)
 }
 
-// `nib run`: only what was powered, read to its end and answered whole is stored.
-pub fn run_folder(
-    dir: &[u8],
-    input: i32,
-    out: &mut Paper,
-    page: &mut Page,
-    array: &mut Array,
-    registers: &mut Registers,
-    counts: &mut Counts,
-    flags: &mut Flags,
-) {
-    let part = load(dir, page, array, counts, flags);
-    if !part.good {
-        return;
+// Power-on told in words; where replies are bytes, only a refused one is told, as an error. Whether the trace is to be run.
+fn goes_on(out: &mut Paper, dir: &[u8], words: bool, answer: PowerAnswer) -> bool {
+    if words {
+        let p = begin(STDOUT_FILENO);
+        let p = tell_power(out, p, answer);
+        let p = flush(out, p);
+        return p.good;
     }
-    let on = power(part, page, array, registers, counts, flags);
-    let answer = on.answer;
-    let t = on.target;
-    if let PowerAnswer::Refused(why) = answer {
-        refuse(dir, why);
-        return;
-    }
-    let p = begin(STDOUT_FILENO);
-    if ran(t, false, input, p, out, part, page, array, registers, counts, flags) {
-        let l = part.lengths;
-        store(dir, l, array, registers, counts);
+    match answer {
+        PowerAnswer::Accepted => true,
+        PowerAnswer::Refused(why) => {
+            refuse(dir, why);
+            false
+        }
     }
 }
 
-// `nib explain`: nothing is stored. A part that power-on refuses is shown too, unpowered.
-pub fn explain_folder(
+// `nib run` and, in words, `nib explain`. Only what was powered, read to its end and answered whole is stored, and by `run`
+// alone.
+pub fn on_folder(
     dir: &[u8],
+    words: bool,
     input: i32,
     out: &mut Paper,
     page: &mut Page,
@@ -397,7 +379,23 @@ pub fn explain_folder(
     let on = power(part, page, array, registers, counts, flags);
     let answer = on.answer;
     let t = on.target;
-    let p = begin(STDOUT_FILENO);
-    let p = tell_power(out, p, answer);
-    ran(t, true, input, p, out, part, page, array, registers, counts, flags);
+    if !goes_on(out, dir, words, answer) {
+        return;
+    }
+    let good = ran(
+        t,
+        words,
+        input,
+        out,
+        part,
+        page,
+        array,
+        registers,
+        counts,
+        flags,
+    );
+    if good & !words {
+        let l = part.lengths;
+        store(dir, l, array, registers, counts);
+    }
 }

@@ -1,4 +1,7 @@
 // A trace from text, and back as text.
+use crate::running::left;
+use libc::STDERR_FILENO;
+use libc::STDOUT_FILENO;
 use pens::pen::Paper;
 use pens::pen::Pen;
 use pens::pen::begin;
@@ -9,10 +12,7 @@ use pens::pen::hex;
 use pens::pen::number;
 use pens::pen::put;
 use pens::pen::text;
-use crate::running::left;
 use pens::say::with_number;
-use libc::STDERR_FILENO;
-use libc::STDOUT_FILENO;
 use words::Kind;
 use words::reading::Reading;
 use words::reading::Said;
@@ -26,10 +26,10 @@ use words::reading::spot_next;
 use words::writing::Piece;
 use words::writing::Value;
 use words::writing::Writing;
+use words::writing::writing_begun;
 use words::writing::wrote_end;
 use words::writing::wrote_next;
 use words::writing::wrote_odd;
-use words::writing::writing_begun;
 
 // As much of the last word as an error shows.
 pub type Last = [u8; 32];
@@ -96,7 +96,11 @@ fn is_wrong(said: Said) -> bool {
 
 fn reason(out: &mut Paper, p: Pen, why: Wrong) -> Pen {
     match why {
-        Wrong::NoLetter => text(out, p, b"no letter of c a d o f p x stands before it on its line"),
+        Wrong::NoLetter => text(
+            out,
+            p,
+            b"no letter of c a d o f p x stands before it on its line",
+        ),
         Wrong::NoValue => text(out, p, b"a letter with no value"),
         Wrong::NotByte => text(out, p, b"not two hex digits"),
         Wrong::NotNumber => text(out, p, b"not a decimal number, or too large"),

@@ -24,11 +24,35 @@ fn main() {
     tried(b"explain tiny", Asked::Explain, b"tiny", b"", b"trace");
     tried(b"explain dark", Asked::Explain, b"dark", b"", b"look");
     tried(b"run tiny", Asked::Run, b"tiny", b"", b"trace");
-    tried(b"explain tiny after the run", Asked::Explain, b"tiny", b"", b"look");
+    tried(
+        b"explain tiny after the run",
+        Asked::Explain,
+        b"tiny",
+        b"",
+        b"look",
+    );
     tried(b"page real_page", Asked::Page, b"real_page", b"", b"trace");
-    tried(b"page damaged_page", Asked::Page, b"damaged_page", b"", b"trace");
-    tried(b"page wrong_page", Asked::Page, b"wrong_page", b"", b"trace");
+    tried(
+        b"page damaged_page",
+        Asked::Page,
+        b"damaged_page",
+        b"",
+        b"trace",
+    );
+    tried(
+        b"page wrong_page",
+        Asked::Page,
+        b"wrong_page",
+        b"",
+        b"trace",
+    );
     tried(b"new made", Asked::New, b"made", b"", b"trace");
-    tried(b"new again", Asked::NewFrom, b"again", b"tiny/page", b"trace");
+    tried(
+        b"new again",
+        Asked::NewFrom,
+        b"again",
+        b"tiny/page",
+        b"trace",
+    );
     tried(b"help", Asked::Help, b"", b"", b"trace");
 }

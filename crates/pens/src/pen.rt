@@ -129,7 +129,11 @@ pub fn ranked(out: &mut Paper, p: Pen, n: usize) -> Pen {
 
 // A hex digit; `ten` is the letter for ten.
 fn digit(d: u8, ten: u8) -> u8 {
-    if d < 10 { b'0' + d } else { ten % 128 + (d - 10) % 16 }
+    if d < 10 {
+        b'0' + d
+    } else {
+        ten % 128 + (d - 10) % 16
+    }
 }
 
 // A byte as two hex digits.

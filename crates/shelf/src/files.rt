@@ -1,8 +1,8 @@
 // Files by folder and name. Each function that fails says so on standard error, in a line that names the file, and answers
 // false.
+use libc::STDERR_FILENO;
 use pens::pen::count;
 use pens::pen::failed;
-use libc::STDERR_FILENO;
 ghost use Rattle.io.specs.Counts.{Counts};
 
 pub type Path = [u8; 4096];
@@ -71,7 +71,12 @@ fn read_due(fd: i32, path: &[u8], dst: &mut [u8], due: usize) -> bool {
         return false;
     }
     if 0 < more {
-        complain(path, b": has more than the ", due, b" bytes that it should have\n");
+        complain(
+            path,
+            b": has more than the ",
+            due,
+            b" bytes that it should have\n",
+        );
         return false;
     }
     true

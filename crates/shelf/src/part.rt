@@ -5,6 +5,11 @@ use crate::files::read_whole;
 use crate::files::remove;
 use crate::files::rename;
 use crate::files::write_beside;
+use folder::Lengths;
+use folder::Plan;
+use folder::plan_of;
+use libc::STDERR_FILENO;
+use libc::STDOUT_FILENO;
 use pens::pen::Paper;
 use pens::pen::begin;
 use pens::pen::count;
@@ -14,11 +19,6 @@ use pens::pen::flush;
 use pens::pen::text;
 use pens::say::power_sentence;
 use pens::say::with_number;
-use folder::Lengths;
-use folder::Plan;
-use folder::plan_of;
-use libc::STDERR_FILENO;
-use libc::STDOUT_FILENO;
 use power::PowerRefusal;
 use power::Powered;
 use power::power_on;
@@ -413,13 +413,7 @@ pub fn load(
 }
 
 // Array, counts and registers: all three are written beside the old ones before the first of them is renamed.
-fn written(
-    dir: &[u8],
-    l: Lengths,
-    array: &Array,
-    registers: &Registers,
-    counts: &Counts,
-) -> bool {
+fn written(dir: &[u8], l: Lengths, array: &Array, registers: &Registers, counts: &Counts) -> bool {
     write_beside(dir, b"array.new", array, l.array)
         && write_beside(dir, b"counts.new", counts, l.counts)
         && write_beside(dir, b"registers.new", registers, l.registers)
@@ -437,13 +431,7 @@ fn remove_new(dir: &[u8]) {
     remove(dir, b"registers.new");
 }
 
-pub fn store(
-    dir: &[u8],
-    l: Lengths,
-    array: &Array,
-    registers: &Registers,
-    counts: &Counts,
-) {
+pub fn store(dir: &[u8], l: Lengths, array: &Array, registers: &Registers, counts: &Counts) {
     let good = written(dir, l, array, registers, counts);
     if !good {
         remove_new(dir);
