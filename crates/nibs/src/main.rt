@@ -18,9 +18,13 @@ fn tried(words: &[u8], asked: Asked, second: &[u8], third: &[u8], input: &[u8]) 
     libc::close(fd);
 }
 
-fn main() {
+fn texts() {
     tried(b"text", Asked::Text, b"", b"", b"script");
     tried(b"text -d", Asked::Back, b"", b"", b"trace");
+    tried(b"help", Asked::Help, b"", b"", b"look");
+}
+
+fn runs() {
     tried(b"explain tiny", Asked::Explain, b"tiny", b"", b"trace");
     tried(b"explain dark", Asked::Explain, b"dark", b"", b"look");
     tried(b"run tiny", Asked::Run, b"tiny", b"", b"trace");
@@ -31,28 +35,35 @@ fn main() {
         b"",
         b"look",
     );
-    tried(b"page real_page", Asked::Page, b"real_page", b"", b"trace");
+}
+
+fn pages() {
+    tried(b"page real_page", Asked::Page, b"real_page", b"", b"look");
     tried(
         b"page damaged_page",
         Asked::Page,
         b"damaged_page",
         b"",
-        b"trace",
+        b"look",
     );
+    tried(b"page wrong_page", Asked::Page, b"wrong_page", b"", b"look");
+}
+
+fn folders() {
+    tried(b"new made", Asked::New, b"made", b"", b"look");
+    tried(b"explain made", Asked::Explain, b"made", b"", b"look");
     tried(
-        b"page wrong_page",
-        Asked::Page,
-        b"wrong_page",
-        b"",
-        b"trace",
-    );
-    tried(b"new made", Asked::New, b"made", b"", b"trace");
-    tried(
-        b"new again",
+        b"new again tiny/page",
         Asked::NewFrom,
         b"again",
         b"tiny/page",
-        b"trace",
+        b"look",
     );
-    tried(b"help", Asked::Help, b"", b"", b"trace");
+}
+
+fn main() {
+    texts();
+    runs();
+    pages();
+    folders();
 }
