@@ -54,7 +54,8 @@ fn limits(out: &mut Paper, p: Pen, n: usize, low: usize, high: usize) -> Pen {
     with_number(out, p, b" to ", high)
 }
 
-fn printable(b: u8) -> u8 {
+// A byte as a terminal can show it.
+pub fn printable(b: u8) -> u8 {
     if (32 <= b) & (b < 127) { b } else { b'.' }
 }
 

@@ -1,4 +1,5 @@
 // A trace from text, and back as text.
+use crate::pages::printable;
 use crate::running::left;
 use libc::STDERR_FILENO;
 use libc::STDOUT_FILENO;
@@ -134,7 +135,7 @@ fn tell_wrong(line: usize, spot: Spot, word: &[u8], size: usize, said: Said) {
 
 fn keep(word: &mut Last, i: usize, b: u8) {
     if i < 32 {
-        word[i] = b;
+        word[i] = printable(b);
     }
 }
 
