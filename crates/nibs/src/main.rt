@@ -21,6 +21,8 @@ fn tried(words: &[u8], asked: Asked, second: &[u8], third: &[u8], input: &[u8]) 
 fn texts() {
     tried(b"text", Asked::Text, b"", b"", b"script");
     tried(b"text -d", Asked::Back, b"", b"", b"trace");
+    tried(b"text -d, of many", Asked::Back, b"", b"", b"many");
+    tried(b"text, of many", Asked::Text, b"", b"", b"many_text");
     tried(b"help", Asked::Help, b"", b"", b"look");
 }
 
