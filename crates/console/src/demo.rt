@@ -212,10 +212,6 @@ fn scene(
 }
 
 // Program-clear stays off where scene 1 is left out.
-fn is_played(k: usize, on: bool) -> bool {
-    on | !(k == 1)
-}
-
 fn played(
     s: Stream,
     k: usize,
@@ -229,7 +225,7 @@ fn played(
     counts: &mut Counts,
     flags: &Flags,
 ) -> Stream {
-    if is_played(k, on) {
+    if on | !(k == 1) {
         scene(
             s,
             k,

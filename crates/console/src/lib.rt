@@ -11,6 +11,7 @@ use pages::show_page;
 use pens::pen::Paper;
 use pens::pen::Pen;
 use pens::pen::begin;
+use pens::pen::count;
 use pens::pen::flush;
 use pens::pen::text;
 use running::on_folder;
@@ -25,6 +26,7 @@ use shelf::part::planned;
 use shelf::part::t1;
 use texts::from_text;
 use texts::to_text;
+ghost use Rattle.io.specs.Counts.{Counts as Counted};
 
 fn usage_files(out: &mut Paper, p: Pen) -> Pen {
     let p = text(
@@ -188,15 +190,27 @@ pub fn act(asked: Asked, second: &[u8], third: &[u8], input: i32, out: &mut Pape
     }
 }
 
+// An argument. Of one that is too long there is as much as makes a path that is refused in its own words.
+fn argument(i: usize, s: &mut [u8]) -> usize
+    ensures { λ r. ⌜ Counted r (now (s .exit)) ⌝ }
+{
+    let n = os::arg(i, s);
+    if os::errno() == libc::ENAMETOOLONG {
+        count(4096, s)
+    } else {
+        count(n, s)
+    }
+}
+
 // The program.
 pub fn nib() {
     let mut out = [0u8; 65536];
     let mut first = [0u8; 4096];
     let mut second = [0u8; 4096];
     let mut third = [0u8; 4096];
-    let a = os::arg(1, &mut first);
-    let b = os::arg(2, &mut second);
-    let c = os::arg(3, &mut third);
+    let a = argument(1, &mut first);
+    let b = argument(2, &mut second);
+    let c = argument(3, &mut third);
     let asked = asked_of(os::arg_count(), &first[..a], &second[..b]);
     act(
         asked,

@@ -27,6 +27,7 @@ use shelf::part::run_on;
 use shelf::part::store;
 use target::Event;
 use target::Target;
+use words::reading::up;
 ghost use Prim.Native.Nat.{_-_, _≤_};
 
 // How far a trace has come.
@@ -85,10 +86,6 @@ fn replied(out: &mut Paper, s: Stream, number: usize, odd: bool, e: Event, room:
         let p = put(out, p, room[0]);
         put(out, p, room[1])
     }
-}
-
-fn up(n: usize) -> usize {
-    if n < 1000000000000 { n + 1 } else { n }
 }
 
 // A whole record.

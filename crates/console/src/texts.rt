@@ -197,16 +197,12 @@ fn text_flushed(t: Text, out: &Paper, more: bool) -> Text {
     Text { pen, going, ..t }
 }
 
-fn text_stopped(t: Text) -> Text {
-    failed(b"standard input");
-    Text { going: false, ..t }
-}
-
 fn text_turn(t: Text, out: &mut Paper, word: &mut Last) -> Text {
     let mut chunk = [0u8; 4096];
     let got = libc::read(t.input, &mut chunk);
     if got < 0 {
-        return text_stopped(t);
+        failed(b"standard input");
+        return Text { going: false, ..t };
     }
     let n = io::count(got, &chunk);
     if n == 0 {
@@ -329,16 +325,12 @@ fn back_flushed(t: Back, out: &Paper, more: bool) -> Back {
     Back { pen, going, ..t }
 }
 
-fn back_stopped(t: Back) -> Back {
-    failed(b"standard input");
-    Back { going: false, ..t }
-}
-
 fn back_turn(t: Back, out: &mut Paper) -> Back {
     let mut chunk = [0u8; 4096];
     let got = libc::read(t.input, &mut chunk);
     if got < 0 {
-        return back_stopped(t);
+        failed(b"standard input");
+        return Back { going: false, ..t };
     }
     let n = io::count(got, &chunk);
     if n == 0 {
