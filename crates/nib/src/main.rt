@@ -1,0 +1,4 @@
+// nib, the bench at the command line.
+fn main() {
+    console::nib();
+}

@@ -1,0 +1,3 @@
+// Part folders: files by folder and name, and the part that a folder holds.
+pub mod files;
+pub mod part;
