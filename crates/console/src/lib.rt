@@ -15,14 +15,15 @@ use pens::pen::count;
 use pens::pen::flush;
 use pens::pen::text;
 use running::on_folder;
-use shelf::files::read_path;
 use shelf::part::Array;
 use shelf::part::Counts;
 use shelf::part::Flags;
 use shelf::part::Page;
+use shelf::part::Part;
 use shelf::part::T1_ID;
 use shelf::part::make;
 use shelf::part::planned;
+use shelf::part::read_page;
 use shelf::part::t1;
 use texts::from_text;
 use texts::to_text;
@@ -75,32 +76,15 @@ fn usage(fd: i32, out: &mut Paper) {
 
 fn make_new(
     dir: &[u8],
-    path: &[u8],
     page: &Page,
-    device: u8,
+    part: Part,
     array: &Array,
     counts: &Counts,
     flags: &Flags,
     out: &mut Paper,
 ) {
-    let part = planned(path, page, device);
     if part.good {
         make(dir, page, part, array, counts, flags, out);
-    }
-}
-
-// A page does not say its part's device ID: the folder's is 0 until its owner puts another.
-fn make_from(
-    dir: &[u8],
-    path: &[u8],
-    page: &mut Page,
-    array: &Array,
-    counts: &Counts,
-    flags: &Flags,
-    out: &mut Paper,
-) {
-    if read_path(path, page, 256) {
-        make_new(dir, path, page, 0, array, counts, flags, out);
     }
 }
 
@@ -114,8 +98,15 @@ fn on_part(asked: Asked, second: &[u8], third: &[u8], input: i32, out: &mut Pape
     let mut flags = [0u8; 16384];
     match asked {
         Asked::Demo => tell(out, &page, &mut array, &mut registers, &mut counts, &flags),
-        Asked::New => make_new(second, b"T1", &page, T1_ID, &array, &counts, &flags, out),
-        Asked::NewFrom => make_from(second, third, &mut page, &array, &counts, &flags, out),
+        Asked::New => {
+            let part = planned(b"T1", &page, T1_ID);
+            make_new(second, &page, part, &array, &counts, &flags, out)
+        }
+        // a page does not say its part's device ID: it is 0 until the folder's owner puts another
+        Asked::NewFrom => {
+            let part = read_page(third, &mut page);
+            make_new(second, &page, part, &array, &counts, &flags, out)
+        }
         Asked::Run => on_folder(
             second,
             false,

@@ -230,8 +230,8 @@ fn flushed(s: Stream, out: &Paper, more: bool) -> Stream {
     Stream { pen, going, ..s }
 }
 
-// The end of the input, or an input that can't be read: then nothing is stored.
-pub fn unread(s: Stream) -> Stream {
+// An input that can't be read: nothing is stored.
+fn unread(s: Stream) -> Stream {
     failed(b"standard input");
     let p = s.pen;
     let pen = Pen { good: false, ..p };

@@ -28,7 +28,7 @@ fn append(path: &mut Path, from: usize, s: &[u8]) -> usize {
 }
 
 // DIR/NAME.
-fn join(path: &mut Path, dir: &[u8], name: &[u8]) -> usize
+pub fn join(path: &mut Path, dir: &[u8], name: &[u8]) -> usize
     ensures { λ r. ⌜ Counts r (now (path .exit)) ⌝ }
 {
     let n = append(path, 0, dir);
@@ -82,7 +82,7 @@ fn read_due(fd: i32, path: &[u8], dst: &mut [u8], due: usize) -> bool {
     true
 }
 
-pub fn read_path(path: &[u8], dst: &mut [u8], due: usize) -> bool {
+fn read_path(path: &[u8], dst: &mut [u8], due: usize) -> bool {
     let fd = os::open_read(path);
     if fd < 0 {
         failed(path);

@@ -1,6 +1,8 @@
 // A part: its buffers, and the folder that holds it.
 use crate::files::complain;
 use crate::files::create;
+use crate::files::join;
+use crate::files::one_more;
 use crate::files::read_whole;
 use crate::files::remove;
 use crate::files::rename;
@@ -388,6 +390,42 @@ fn read_id(dir: &[u8]) -> Part {
     }
 }
 
+fn page_from(fd: i32, path: &[u8], page: &mut Page) -> bool {
+    let got = io::read_full(fd, page);
+    let more = one_more(fd);
+    if more < 0 {
+        failed(path);
+        return false;
+    }
+    if (got < 256) | (0 < more) {
+        refuse(path, PowerRefusal::PageLength);
+        return false;
+    }
+    true
+}
+
+// The page of a file, and the part that it describes.
+pub fn read_page(path: &[u8], page: &mut Page) -> Part {
+    let fd = os::open_read(path);
+    if fd < 0 {
+        failed(path);
+        return no_part();
+    }
+    let good = page_from(fd, path, page);
+    libc::close(fd);
+    if good {
+        planned(path, page, 0)
+    } else {
+        no_part()
+    }
+}
+
+fn page_of(dir: &[u8], page: &mut Page) -> Part {
+    let mut path = [0u8; 4096];
+    let n = join(&mut path, dir, b"page");
+    read_page(&path[..n], page)
+}
+
 // The folder's files into the buffers.
 pub fn load(
     dir: &[u8],
@@ -396,20 +434,21 @@ pub fn load(
     counts: &mut Counts,
     flags: &mut Flags,
 ) -> Part {
-    if !read_whole(dir, b"page", page, 256) {
+    let part = page_of(dir, page);
+    if !part.good {
         return no_part();
     }
     let id = read_id(dir);
     if !id.good {
         return no_part();
     }
-    let part = planned(dir, page, id.device);
-    if !part.good {
-        return no_part();
-    }
     let l = part.lengths;
     let good = read_buffers(dir, l, array, counts, flags);
-    Part { good, ..part }
+    Part {
+        good,
+        device: id.device,
+        ..part
+    }
 }
 
 // Array, counts and registers: all three are written beside the old ones before the first of them is renamed.
