@@ -1,6 +1,6 @@
 #!/bin/sh
 # Compares the plain C model with the proved one, on the traces that both make.
-#   compare.sh                  writes the C program's lines to ../crates/judged/stdout,
+#   compare.sh                  writes the C program's lines to ../crates/test_judge/stdout,
 #                               which the gate holds the proved program to
 #   compare.sh --check [SEED [COUNT]]
 #                               runs both, the proved one as ../target/bin/judged ('rt check judged'
@@ -12,7 +12,7 @@
 set -eu
 cd "$(dirname "$0")"
 out=../target/judge
-stored=../crates/judged/stdout
+stored=../crates/test_judge/stdout
 proved=${JUDGED:-../target/bin/judged}
 ./build.sh build
 

@@ -1,5 +1,5 @@
 #!/usr/bin/env python3
-"""cases.py: writes crates/cases/data/table, the expectations that the program `cases` holds the model to; with --check, only says
+"""cases.py: writes crates/test_table/data/table, the expectations that the program `cases` holds the model to; with --check, only says
 whether that file is what it would write.
 
 Every expectation below is written by hand from document 01's words (quoted or named beside the states); none is taken
@@ -1232,7 +1232,7 @@ text = '\n'.join(OUT) + '\n'
 path = os.path.join(os.path.dirname(os.path.dirname(os.path.abspath(__file__))), 'crates', 'cases', 'data', 'table')
 if sys.argv[1:] == ['--check']:
     with open(path) as stored:
-        sys.exit(0 if stored.read() == text else 'crates/cases/data/table is not what this script writes')
+        sys.exit(0 if stored.read() == text else 'crates/test_table/data/table is not what this script writes')
 with open(path, 'w') as out:
     out.write(text)
 each = len(COMMANDS) + len(UNKNOWN) + len(ADDRESSES) + len(DATA) + 1 + len(FINISHES) + 2 + len(BAD)

@@ -1,5 +1,5 @@
 #!/usr/bin/env python3
-"""The files of crates/nibs/data, all but `script` and `look`'s words: the folders and pages, the script's trace, and a long trace
+"""The files of crates/test_nib/data, all but `script` and `look`'s words: the folders and pages, the script's trace, and a long trace
 with its text, by a reader and a writer of their own.
 
     python3 tools/nibs.py            # writes them anew

@@ -1,11 +1,11 @@
 #!/usr/bin/env python3
 """The expected output of the program `pages`, from a second implementation written from document 01's words.
 
-    python3 tools/pages.py > crates/pages/stdout    writes it anew
+    python3 tools/pages.py > crates/test_pages/stdout    writes it anew
     python3 tools/pages.py --check                  compares it, and names the first line that differs
 
 It shares nothing with the Rattle code but the list of cases and the form of a line. The makers' pages are read from
-crates/pages/data/makers: six parts, of each the page as printed and then the same page with byte 128 as 00h.
+crates/test_pages/data/makers: six parts, of each the page as printed and then the same page with byte 128 as 00h.
 """
 import os
 import sys
@@ -14,7 +14,7 @@ ROOT = os.path.dirname(os.path.dirname(os.path.abspath(__file__)))
 MAKERS = os.path.join(ROOT, 'crates', 'pages', 'data', 'makers')
 STDOUT = os.path.join(ROOT, 'crates', 'pages', 'stdout')
 
-# The parts of crates/pages/data/makers in order, each with the CRC that its maker's sheet prints.
+# The parts of crates/test_pages/data/makers in order, each with the CRC that its maker's sheet prints.
 PRINTED = [
     ('MT29F32G08ABAAAWP', 0xA61F),
     ('MT29F64G08AFAAAWP', 0x321D),
@@ -258,7 +258,7 @@ def makers():
     with open(MAKERS, 'rb') as f:
         data = f.read()
     if len(data) != 256 * 2 * len(PRINTED):
-        sys.exit('pages.py: crates/pages/data/makers has %d bytes' % len(data))
+        sys.exit('pages.py: crates/test_pages/data/makers has %d bytes' % len(data))
     for k in range(2 * len(PRINTED)):
         page = data[256 * k:256 * (k + 1)]
         name, printed = PRINTED[k // 2]
@@ -465,9 +465,9 @@ def check():
         want = expected[k] if k < len(expected) else '(no line)'
         have = stored[k] if k < len(stored) else '(no line)'
         if want != have:
-            print('pages.py: line %d of crates/pages/stdout differs\n  stored:   %s\n  expected: %s' % (k + 1, have, want))
+            print('pages.py: line %d of crates/test_pages/stdout differs\n  stored:   %s\n  expected: %s' % (k + 1, have, want))
             return 1
-    print('pages.py: crates/pages/stdout: all %d lines as expected' % len(expected))
+    print('pages.py: crates/test_pages/stdout: all %d lines as expected' % len(expected))
     return 0
 
 

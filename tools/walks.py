@@ -5,7 +5,7 @@ A walk names what it uses by its place in the context, so one parameter more shi
 kept as a list of names, and the numbers are computed. What comes out is plain antt, which `rt` checks like any other proof. Of each
 file the part up to the line '-- at exit' (its comment and its `use` lines) is kept as it stands.
 
-    python3 tools/walks.py crates/lent/proofs
+    python3 tools/walks.py crates/in_place/proofs
     rt fmt
 
 For other slices, change SLICES and the names below it, and the contracts in src/lib.rt: SLICES are those of the step, in the order

@@ -6,7 +6,7 @@ use mathlib.Core.List.{List}
 use Prim.Native.Nat.{ℕ, _+_, _*_, _%_, _≤_, _<_}
 use lib.Dec.{eqb, leb}
 use native.Mathlib.Omega.{arith}
-use Rattle.cells.proofs.Splice.{piece}
+use Rattle.slices.proofs.Splice.{piece}
 use Rattle.target.specs.declared.Geometry.{Geometry}
 use Rattle.target.specs.declared.Lun.{Lun}
 use Rattle.target.specs.declared.Target.{Target}
@@ -17,13 +17,13 @@ use Rattle.target.specs.Place.{works}
 use Rattle.target.specs.Sizes.{inLimits}
 use Rattle.target.proofs.Both.{both}
 use Rattle.target.proofs.Limits.{Limits, limits, registers-all}
-use Rattle.bench.specs.Usable.{recordSound, outputSound}
-use Rattle.bench.proofs.Sound.{register-place, sound}
-use Rattle.kept.proofs.Choice.{by-pick}
-use Rattle.rest.specs.Rest.{empty, readable, unreadIn, unreadOf}
-use Rattle.rest.specs.declared.Unread.{Unread}
-use Rattle.rest.specs.declared.Source.{Source}
-use Rattle.rest.specs.declared.Source.the-variants as source
+use Rattle.step.specs.Usable.{recordSound, outputSound}
+use Rattle.step.proofs.Sound.{register-place, sound}
+use Rattle.thm_kept.proofs.Choice.{by-pick}
+use Rattle.unread.specs.Rest.{empty, readable, unreadIn, unreadOf}
+use Rattle.unread.specs.declared.Unread.{Unread}
+use Rattle.unread.specs.declared.Source.{Source}
+use Rattle.unread.specs.declared.Source.the-variants as source
 use Rattle.host.specs.Image.{sourceNumber, restNumber}
 
 mod-small : (n : ℕ) → n < 1073741824 → n % 1073741824 ≡ n

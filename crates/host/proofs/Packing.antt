@@ -29,8 +29,8 @@ use Rattle.target.specs.declared.Target.{Target}
 use Rattle.target.specs.declared.Reply.the-variants as reply
 use Rattle.target.specs.declared.Refusal.the-variants as refusal
 use Rattle.power.specs.Power.{unpowered}
-use Rattle.bench.specs.Usable.{recordSound, usable}
-use Rattle.bench.specs.Step.{Buffers, Outcome, steady, stepOf}
+use Rattle.step.specs.Usable.{recordSound, usable}
+use Rattle.step.specs.Step.{Buffers, Outcome, steady, stepOf}
 use Rattle.host.specs.declared.numbers.Cycles.{Cycles}
 use Rattle.host.specs.declared.numbers.Place.{Place}
 use Rattle.host.specs.declared.Image.{Image}

@@ -2,7 +2,7 @@
 -- Assumes nothing.
 use Prim.Native.Nat.{ℕ}
 use mathlib.Core.List.{List}
-use Rattle.bench.specs.Step.{Buffers}
+use Rattle.step.specs.Step.{Buffers}
 use Rattle.host.specs.declared.Image.{Image}
 use Rattle.host.specs.Image.{HostEvent, HostTrace, HostPower}
 

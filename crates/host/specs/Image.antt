@@ -9,12 +9,12 @@ use Rattle.target.specs.Numbers.{replyFirst, replySecond}
 use Rattle.target.specs.declared.Target.{Target}
 use Rattle.target.specs.declared.Reply.{Reply}
 use Rattle.power.specs.Power.{powerNumber, unpowered, Powering, powerOf}
-use Rattle.bench.specs.Step.{Buffers, Outcome, stepOf}
+use Rattle.step.specs.Step.{Buffers, Outcome, stepOf}
 use Rattle.trace.specs.Run.{runNumber, Traced, traceOf}
-use Rattle.rest.specs.Rest.{unreadOf}
-use Rattle.rest.specs.declared.Source.{Source}
-use Rattle.rest.specs.declared.Source.the-variants as source
-use Rattle.rest.specs.declared.Unread.{Unread}
+use Rattle.unread.specs.Rest.{unreadOf}
+use Rattle.unread.specs.declared.Source.{Source}
+use Rattle.unread.specs.declared.Source.the-variants as source
+use Rattle.unread.specs.declared.Unread.{Unread}
 use Rattle.host.specs.declared.numbers.Cycles.{Cycles}
 use Rattle.host.specs.declared.numbers.Place.{Place}
 use Rattle.host.specs.declared.Image.{Image}

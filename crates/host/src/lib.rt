@@ -3,7 +3,7 @@
 // Numbers that no record packs to stand for a target that is not powered, and stay as they are.
 pub mod numbers;
 
-use bench::Stepped;
+use step::Stepped;
 use numbers::Cycles;
 use numbers::Place;
 use numbers::four_marks;
@@ -20,9 +20,9 @@ use numbers::to_output;
 use numbers::to_sequence;
 use power::power_number;
 use power::unpowered;
-use rest::Source;
-use rest::Unread;
-use rest::unread_part;
+use unread::Source;
+use unread::Unread;
+use unread::unread_part;
 use target::Decoder;
 use target::Event;
 use target::Geometry;
@@ -271,7 +271,7 @@ pub fn event_on(
         (eventOn i kind value (now (page .entry)) (record { array = now (array .entry); registers = now (registers .entry); counts = now (counts .entry) }) (now (flags .entry))) ⌝ }
 {
     let e = Event { kind, value };
-    let s = bench::step(take(i), e, page, array, registers, counts, flags);
+    let s = step::step(take(i), e, page, array, registers, counts, flags);
     let reply = s.reply;
     let next = s.target;
     Answered {

@@ -1,4 +1,4 @@
 // nib, the bench at the command line.
 fn main() {
-    console::nib();
+    nib_app::nib();
 }

@@ -1,5 +1,5 @@
 // The fields of the page, least significant byte first.
-use cells::byte_at;
+use slices::byte_at;
 ghost use mathlib.Core.Path.{_≡_};
 ghost use Rattle.page.specs.Page.{field, bitOf, features, optionalCommands, makerId, dataBytes, spareBytes, pagesABlock, blocksALun, lunCount, addressCycles, programsAPage, storedCrc};
 

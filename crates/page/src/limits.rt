@@ -10,7 +10,7 @@ use crate::fields::pages_a_block;
 use crate::fields::programs_a_page;
 use crate::fields::spare_bytes;
 use crate::fields::stored_crc;
-use cells::byte_at;
+use slices::byte_at;
 ghost use mathlib.Core.Path.{_≡_};
 ghost use Rattle.page.specs.Page.{signed, crcGood, fieldsInLimits};
 

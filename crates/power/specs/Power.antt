@@ -4,7 +4,7 @@ use mathlib.Core.List.{List, [], _∷_}
 use Prim.Native.Nat.{ℕ, _+_}
 use lib.ListN.{length, replicate}
 use lib.Dec.{eqb}
-use Rattle.cells.specs.Cells.{allAtMost}
+use Rattle.slices.specs.Cells.{allAtMost}
 use Rattle.page.specs.Page.{bitOf, signed, crcGood, fieldsInLimits, features, optionalCommands, makerId, dataBytes, spareBytes, pagesABlock, blocksALun, lunCount, programsAPage}
 use Rattle.target.specs.Pick.{pick}
 use Rattle.target.specs.Place.{ready}

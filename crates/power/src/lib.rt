@@ -1,6 +1,6 @@
 // Power-on: from a parameter page and the lent buffers to a powered target, or to the right refusal.
-use cells::at_most;
-use cells::fill;
+use slices::at_most;
+use slices::fill;
 use page::fields::bit_of;
 use page::fields::blocks_a_lun;
 use page::fields::data_bytes;
@@ -27,7 +27,7 @@ ghost use mathlib.Core.Path.{_≡_};
 ghost use mathlib.Core.Bool.{true};
 ghost use Prim.Native.Nat.{_≤_};
 ghost use lib.ListN.{length};
-ghost use Rattle.cells.specs.Cells.{allAtMost};
+ghost use Rattle.slices.specs.Cells.{allAtMost};
 ghost use Rattle.page.specs.Page.{fieldsInLimits, programsAPage};
 ghost use Rattle.power.specs.Power.{powerNumber, geometryOf, optionsOf, poweredOf, unpowered, contentBad, powerAnswer, Powering, powerOf};
 

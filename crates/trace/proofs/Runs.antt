@@ -12,8 +12,8 @@ use native.Mathlib.Numerals.{add-one}
 use lib.ListN.{length, getD, set, drop}
 use lib.Dec.{eqb, leb, ltb}
 use borrow.Author.Tests.{ltb-true, lt-leb, eqb-true, eqb-false}
-use Rattle.cells.specs.Cells.{part, splice}
-use Rattle.cells.proofs.Splice.{piece}
+use Rattle.slices.specs.Cells.{part, splice}
+use Rattle.slices.proofs.Splice.{piece}
 use Rattle.target.proofs.Both.{both}
 use Rattle.target.proofs.Limits.{limits, registers-all}
 use Rattle.target.specs.Pick.{orElse}
@@ -31,13 +31,13 @@ use Rattle.target.specs.declared.Verdict.the-variants.{Accepted}
 use Rattle.target.specs.declared.Work.the-variants as work
 use Rattle.rules.specs.Rules.{beforeReset, misplaced, fits, notOffered, lunWorks, pastEnd, verdict}
 use Rattle.rules.proofs.ByKind.{event, in-verdict, out-verdict}
-use Rattle.after.specs.After.{highAfter, clearAfter, selectedAfter, lunsAfter, sequenceAfter, outputAfter, targetAfter, workOf}
-use Rattle.bench.specs.Usable.{usable, sequenceSound, outputSound}
-use Rattle.bench.specs.Buffers.{registersAfter, arrayAfter, countsAfter, outputByte, spoiltBy}
-use Rattle.bench.specs.Step.{Buffers, Outcome, replyOf, worked, acceptedBy, accepted, byVerdict, steady, stepOf}
-use Rattle.bench.proofs.Sound.{sound, filling-place, filling-row, register-place, passes}
-use Rattle.bench.proofs.Places.{row-lun}
-use Rattle.kept.proofs.Kept.{step-steady}
+use Rattle.effects.specs.After.{highAfter, clearAfter, selectedAfter, lunsAfter, sequenceAfter, outputAfter, targetAfter, workOf}
+use Rattle.step.specs.Usable.{usable, sequenceSound, outputSound}
+use Rattle.step.specs.Buffers.{registersAfter, arrayAfter, countsAfter, outputByte, spoiltBy}
+use Rattle.step.specs.Step.{Buffers, Outcome, replyOf, worked, acceptedBy, accepted, byVerdict, steady, stepOf}
+use Rattle.step.proofs.Sound.{sound, filling-place, filling-row, register-place, passes}
+use Rattle.step.proofs.Places.{row-lun}
+use Rattle.thm_kept.proofs.Kept.{step-steady}
 use Rattle.trace.specs.Run.{Running, written, oneMore, ranAll, eventsOf, standsUsable}
 use Rattle.trace.specs.Data.{isData, AllData, filling, giving, Taking, tookOne, takenIn, givenOut, standing, Carried}
 use Rattle.trace.proofs.Turns.{eventAt, turned, stands-kept}

@@ -13,9 +13,9 @@ use borrow.Author.Tests.{leb-true, leb-false, lt-ltb, le-ltb}
 use Rattle.target.specs.Pick.{pick}
 use Rattle.target.specs.declared.Event.{Event}
 use Rattle.target.specs.declared.Target.{Target}
-use Rattle.bench.specs.Usable.{usable}
-use Rattle.bench.specs.Step.{Buffers, Outcome, stepOf}
-use Rattle.kept.proofs.Kept.{step-usable}
+use Rattle.step.specs.Usable.{usable}
+use Rattle.step.specs.Step.{Buffers, Outcome, stepOf}
+use Rattle.thm_kept.proofs.Kept.{step-usable}
 use Rattle.target.specs.declared.Reply.the-variants.{Refused}
 use Rattle.target.specs.declared.Refusal.the-variants.{BadRecord, NotUsable}
 use Rattle.trace.specs.declared.RunAnswer.the-variants.{Done}

@@ -5,7 +5,7 @@ use mathlib.Core.Bool.{Bool, true, false, _&&_}
 use mathlib.Core.List.{List}
 use lib.ListN.{length, getD, set, drop}
 use lib.Dec.{eqb}
-use Rattle.cells.specs.Cells.{part, splice}
+use Rattle.slices.specs.Cells.{part, splice}
 use Rattle.target.specs.declared.Row.{Row}
 use Rattle.target.specs.declared.Target.{Target}
 use Rattle.target.specs.declared.Sequence.the-variants.{Filling}

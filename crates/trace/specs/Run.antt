@@ -11,8 +11,8 @@ use Rattle.target.specs.declared.Target.{Target}
 use Rattle.target.specs.declared.Reply.{Reply}
 use Rattle.target.specs.declared.Reply.the-variants.{Refused}
 use Rattle.target.specs.declared.Refusal.the-variants.{BadRecord, NotUsable}
-use Rattle.bench.specs.Usable.{usable}
-use Rattle.bench.specs.Step.{Buffers, Outcome, stepOf}
+use Rattle.step.specs.Usable.{usable}
+use Rattle.step.specs.Step.{Buffers, Outcome, stepOf}
 use Rattle.trace.specs.declared.RunAnswer.{RunAnswer}
 use Rattle.trace.specs.declared.RunAnswer.the-variants.{Done, NoRoom}
 

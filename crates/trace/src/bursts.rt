@@ -1,8 +1,8 @@
 // Many data cycles in a row: while a program takes data or a page register is put out, the bytes and the replies are moved in one
 // tight loop, and the record is brought up to date once at its end. `trace::run` promises the same as without.
 use crate::put_reply;
-use cells::byte_at;
-use cells::put_part;
+use slices::byte_at;
+use slices::put_part;
 use target::Column;
 use target::Decoder;
 use target::Output;
@@ -20,7 +20,7 @@ ghost use lib.Dec.{eqb, ltb};
 ghost use Rattle.target.specs.Place.{works};
 ghost use Rattle.target.specs.declared.Sequence.the-variants as sequence;
 ghost use Rattle.target.specs.declared.Output.the-variants as output;
-ghost use Rattle.bench.specs.Usable.{usable};
+ghost use Rattle.step.specs.Usable.{usable};
 ghost use Rattle.trace.specs.Data.{isData, AllData, filling, giving, Taking, takenIn, givenOut, Carried};
 
 // Record `j` is a data-out cycle, or a data-in cycle.

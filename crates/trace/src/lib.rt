@@ -1,9 +1,9 @@
 // Byte traces: two-byte records in, two-byte replies out, over the proved step.
 pub mod bursts;
 
-use bench::Stepped;
-use bench::steady;
-use bench::usable::usable;
+use step::Stepped;
+use step::steady;
+use step::usable::usable;
 use bursts::burst;
 use bursts::may_burst;
 use target::Event;
@@ -19,8 +19,8 @@ ghost use lib.Dec.{eqb, ltb};
 ghost use Rattle.target.specs.declared.Reply.the-variants as reply;
 ghost use Rattle.target.specs.declared.Refusal.the-variants as refusal;
 ghost use Rattle.target.specs.Pick.{pick};
-ghost use Rattle.bench.specs.Usable.{usable};
-ghost use Rattle.bench.specs.Step.{Outcome, stepOf};
+ghost use Rattle.step.specs.Usable.{usable};
+ghost use Rattle.step.specs.Step.{Outcome, stepOf};
 ghost use Rattle.trace.specs.Run.{runNumber, Running, written, oneMore, ranAll, eventsOf, standsUsable, oddAnswered, needed, start, Traced, traceOf};
 
 // What a run of a trace or a batch answers as a whole.

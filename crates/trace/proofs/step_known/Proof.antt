@@ -2,8 +2,8 @@
 -- Assumes nothing.
 use mathlib.Core.Path.{sym, _∙_}
 use borrow.Author.Tests.{not-true, not-false}
-use Rattle.bench.proofs.Sound.{passes}
-use Rattle.bench.specs.Step.{stepOf}
+use Rattle.step.proofs.Sound.{passes}
+use Rattle.step.specs.Step.{stepOf}
 use mathlib.Core.Path.{refl}
 use borrow.Author.Needs.{needs}
 use Rattle.trace.proofs.step_known.Statement.{statement}

@@ -1,0 +1,101 @@
+-- `effects::command_work` meets its contract.
+-- Assumes nothing.
+use borrow.Author.Needs.{needs}
+use Rattle.effects.proofs.command_work.Statement.{statement}
+use Rattle.effects.proofs.command_work.Tie as tie
+
+enum-told : tie.Need-enum-told
+enum-told c = search needs
+
+pick-work-requires : tie.Need-pick-work-requires
+pick-work-requires c κs = search needs
+
+enum-told-2 : tie.Need-enum-told-2
+enum-told-2 c = search needs
+
+enum-told-3 : tie.Need-enum-told-3
+enum-told-3 c = search needs
+
+enum-told-4 : tie.Need-enum-told-4
+enum-told-4 c = search needs
+
+enum-known-s : tie.Need-enum-known-s
+enum-known-s c = search needs
+
+due-task-requires : tie.Need-due-task-requires
+due-task-requires c κs = search needs
+
+enum-known-s-2 : tie.Need-enum-known-s-2
+enum-known-s-2 c = search needs
+
+pick-work-requires-2 : tie.Need-pick-work-requires-2
+pick-work-requires-2 c κs = search needs
+
+enum-told-5 : tie.Need-enum-told-5
+enum-told-5 c = search needs
+
+enum-told-6 : tie.Need-enum-told-6
+enum-told-6 c = search needs
+
+returns : tie.Need-returns
+returns c =
+    let c1 = c .before in
+    rw (
+      c .pick-work .ensures,
+      c1 .enum-told .given .1,
+    )
+
+returns-2 : tie.Need-returns-2
+returns-2 c = search needs
+
+returns-3 : tie.Need-returns-3
+returns-3 c = search needs
+
+returns-4 : tie.Need-returns-4
+returns-4 c = search needs
+
+returns-5 : tie.Need-returns-5
+returns-5 c =
+    let c2 = c .before .before in
+    rw (
+      c .due-task .ensures,
+      c2 .s .given .1,
+    )
+
+returns-6 : tie.Need-returns-6
+returns-6 c =
+    let c2 = c .before .before in
+    rw (
+      c .pick-work2 .ensures,
+      c2 .s2 .given .1,
+    )
+
+returns-7 : tie.Need-returns-7
+returns-7 c = search needs
+
+returns-8 : tie.Need-returns-8
+returns-8 c = search needs
+
+pub command-work-spec : {M : Type 1} → statement M
+command-work-spec =
+    tie.close
+    (tie.spec
+    enum-told
+    pick-work-requires
+    enum-told-2
+    enum-told-3
+    enum-told-4
+    enum-known-s
+    due-task-requires
+    enum-known-s-2
+    pick-work-requires-2
+    enum-told-5
+    enum-told-6
+    returns
+    returns-2
+    returns-3
+    returns-4
+    returns-5
+    returns-6
+    returns-7
+    returns-8)

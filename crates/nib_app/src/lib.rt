@@ -1,0 +1,213 @@
+// nib, the bench at the command line: all of the program, so that it and the programs that try its commands are one call each.
+pub mod demo;
+pub mod pages;
+pub mod running;
+pub mod texts;
+
+use nib_args::Asked;
+use nib_args::asked_of;
+use demo::tell;
+use pages::show_page;
+use nib_print::pen::Paper;
+use nib_print::pen::Pen;
+use nib_print::pen::begin;
+use nib_print::pen::count;
+use nib_print::pen::flush;
+use nib_print::pen::text;
+use running::on_folder;
+use nib_files::part::Array;
+use nib_files::part::Counts;
+use nib_files::part::Flags;
+use nib_files::part::Page;
+use nib_files::part::Part;
+use nib_files::part::T1_ID;
+use nib_files::part::make;
+use nib_files::part::planned;
+use nib_files::part::read_page;
+use nib_files::part::t1;
+use texts::from_text;
+use texts::to_text;
+ghost use Rattle.io.specs.Counts.{Counts as Counted};
+
+fn usage_files(out: &mut Paper, p: Pen) -> Pen {
+    let p = text(
+        out,
+        p,
+        b"  nib new DIR [PAGE]         makes a part folder: part T1, or the part of a page\n",
+    );
+    let p = text(
+        out,
+        p,
+        b"  nib run DIR < TRACE        replies on standard output; the folder is brought up to date\n",
+    );
+    let p = text(
+        out,
+        p,
+        b"  nib explain DIR < TRACE    the same in words; the folder stays as it is\n",
+    );
+    text(
+        out,
+        p,
+        b"  nib page FILE              what a parameter page says, and power-on's answer\n",
+    )
+}
+
+fn usage_texts(out: &mut Paper, p: Pen) -> Pen {
+    let p = text(
+        out,
+        p,
+        b"  nib text < TEXT > TRACE    a trace from text, as: c 80  a 00 00 37 00 00  d 3c  o 16  f 1  p 0\n",
+    );
+    let p = text(out, p, b"  nib text -d < TRACE        a trace as text\n");
+    text(out, p, b"  nib help                   these lines\n")
+}
+
+fn usage(fd: i32, out: &mut Paper) {
+    let p = begin(fd);
+    let p = text(
+        out,
+        p,
+        b"  nib demo                   two stations save at once, told in words; needs no file\n",
+    );
+    let p = usage_files(out, p);
+    let p = usage_texts(out, p);
+    flush(out, p);
+}
+
+fn make_new(
+    dir: &[u8],
+    page: &Page,
+    part: Part,
+    array: &Array,
+    counts: &Counts,
+    flags: &Flags,
+    out: &mut Paper,
+) {
+    if part.good {
+        make(dir, page, part, array, counts, flags, out);
+    }
+}
+
+// The commands that have a part. Its buffers stand here alone, and this is called in one place, since the stack has no room for
+// two sets.
+fn on_part(asked: Asked, second: &[u8], third: &[u8], input: i32, out: &mut Paper) {
+    let mut page = t1();
+    let mut array = [0xffu8; 4194304];
+    let mut registers = [0u8; 73728];
+    let mut counts = [0u8; 262144];
+    let mut flags = [0u8; 16384];
+    match asked {
+        Asked::Demo => tell(out, &page, &mut array, &mut registers, &mut counts, &flags),
+        Asked::New => {
+            let part = planned(b"T1", &page, T1_ID);
+            make_new(second, &page, part, &array, &counts, &flags, out)
+        }
+        // a page does not say its part's device ID: it is 0 until the folder's owner puts another
+        Asked::NewFrom => {
+            let part = read_page(third, &mut page);
+            make_new(second, &page, part, &array, &counts, &flags, out)
+        }
+        Asked::Run => on_folder(
+            second,
+            false,
+            input,
+            out,
+            &mut page,
+            &mut array,
+            &mut registers,
+            &mut counts,
+            &mut flags,
+        ),
+        Asked::Explain => on_folder(
+            second,
+            true,
+            input,
+            out,
+            &mut page,
+            &mut array,
+            &mut registers,
+            &mut counts,
+            &mut flags,
+        ),
+        Asked::Text => {}
+        Asked::Back => {}
+        Asked::Page => {}
+        Asked::Help => {}
+        Asked::Wrong => {}
+    }
+}
+
+fn wrong(out: &mut Paper) {
+    io::write_all(libc::STDERR_FILENO, b"nib: no such call; these are:\n");
+    usage(libc::STDERR_FILENO, out);
+}
+
+fn has_part(asked: Asked) -> bool {
+    match asked {
+        Asked::Demo => true,
+        Asked::New => true,
+        Asked::NewFrom => true,
+        Asked::Run => true,
+        Asked::Explain => true,
+        Asked::Text => false,
+        Asked::Back => false,
+        Asked::Page => false,
+        Asked::Help => false,
+        Asked::Wrong => false,
+    }
+}
+
+fn without_part(asked: Asked, second: &[u8], input: i32, out: &mut Paper) {
+    match asked {
+        Asked::Demo => {}
+        Asked::New => {}
+        Asked::NewFrom => {}
+        Asked::Run => {}
+        Asked::Explain => {}
+        Asked::Text => from_text(input, out),
+        Asked::Back => to_text(input, out),
+        Asked::Page => show_page(second, out),
+        Asked::Help => usage(libc::STDOUT_FILENO, out),
+        Asked::Wrong => wrong(out),
+    }
+}
+
+// One command, over an input that is open.
+pub fn act(asked: Asked, second: &[u8], third: &[u8], input: i32, out: &mut Paper) {
+    if has_part(asked) {
+        on_part(asked, second, third, input, out)
+    } else {
+        without_part(asked, second, input, out)
+    }
+}
+
+// An argument. Of one that is too long there is as much as makes a path that is refused in its own words.
+fn argument(i: usize, s: &mut [u8]) -> usize
+    ensures { λ r. ⌜ Counted r (now (s .exit)) ⌝ }
+{
+    let n = os::arg(i, s);
+    if os::errno() == libc::ENAMETOOLONG {
+        count(4096, s)
+    } else {
+        count(n, s)
+    }
+}
+
+// The program.
+pub fn nib() {
+    let mut out = [0u8; 65536];
+    let mut first = [0u8; 4096];
+    let mut second = [0u8; 4096];
+    let mut third = [0u8; 4096];
+    let a = argument(1, &mut first);
+    let b = argument(2, &mut second);
+    let c = argument(3, &mut third);
+    let asked = asked_of(os::arg_count(), &first[..a], &second[..b]);
+    act(
+        asked,
+        &second[..b],
+        &third[..c],
+        libc::STDIN_FILENO,
+        &mut out,
+    );
+}

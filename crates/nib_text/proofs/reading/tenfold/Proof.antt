@@ -1,0 +1,22 @@
+-- `nib_text::reading::tenfold` meets its contract.
+-- Assumes nothing.
+use borrow.Author.Tests.{lt-ltb, le-ltb}
+use mathlib.Core.Path.{refl}
+use borrow.Author.Needs.{needs}
+use Rattle.nib_text.proofs.reading.tenfold.Statement.{statement}
+use Rattle.nib_text.proofs.reading.tenfold.Tie as tie
+
+mul-result : tie.Need-mul-result
+mul-result c = search needs
+
+add-result : tie.Need-add-result
+add-result c = search needs
+
+returns : tie.Need-returns
+returns c = rw (lt-ltb _ _ (c .if1 .taken))
+
+returns-2 : tie.Need-returns-2
+returns-2 c = rw (le-ltb _ _ (c .if1 .left))
+
+pub tenfold-spec : {M : Type 1} → statement M
+tenfold-spec = tie.close (tie.spec mul-result add-result returns returns-2)

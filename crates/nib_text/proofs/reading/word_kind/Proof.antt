@@ -1,0 +1,30 @@
+-- `nib_text::reading::word_kind` meets its contract.
+-- Assumes nothing.
+use Rattle.nib_text.specs.Reading.{wordKind}
+use borrow.Author.Needs.{needs}
+use Rattle.nib_text.proofs.reading.word_kind.Statement.{statement}
+use Rattle.nib_text.proofs.reading.word_kind.Tie as tie
+
+is-letter-requires : tie.Need-is-letter-requires
+is-letter-requires c κs = search needs
+
+letter-of-requires : tie.Need-letter-of-requires
+letter-of-requires c κs = search needs
+
+pick-kind-requires : tie.Need-pick-kind-requires
+pick-kind-requires c κs = search needs
+
+returns : tie.Need-returns
+unfolding wordKind
+returns c =
+    let c1 = c .before in
+    let c2 = c1 .before in
+    rw (
+      c .pick-kind .ensures,
+      c1 .letter-of .ensures,
+      c2 .is-letter .ensures,
+    )
+
+pub word-kind-spec : {M : Type 1} → statement M
+word-kind-spec =
+    tie.close (tie.spec is-letter-requires letter-of-requires pick-kind-requires returns)

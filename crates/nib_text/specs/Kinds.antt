@@ -1,0 +1,19 @@
+-- The letters of a text.
+use Prim.Native.Nat.{ℕ}
+use mathlib.Core.Bool.{Bool}
+use lib.Dec.{eqb}
+use Rattle.nib_text.specs.declared.Kind.{Kind}
+use Rattle.nib_text.specs.declared.Kind.the-variants.{Nothing, Command, Address, DataIn, DataOut, Finish, Protect, Raw}
+
+abbrev pub kindNumber : Kind → ℕ
+kindNumber Nothing = 0
+kindNumber Command = 1
+kindNumber Address = 2
+kindNumber DataIn = 3
+kindNumber DataOut = 4
+kindNumber Finish = 5
+kindNumber Protect = 6
+kindNumber Raw = 7
+
+abbrev pub sameKind : Kind → Kind → Bool
+sameKind a b = eqb (kindNumber a) (kindNumber b)

@@ -1,0 +1,165 @@
+-- What a text means, byte by byte. A word ends at a blank, a line end or `#`; what it says is settled there.
+use Prim.Native.Nat.{ℕ, _+_, _-_, _*_, _%_}
+use mathlib.Core.Bool.{Bool, true, false, _&&_, _||_, not}
+use lib.Dec.{eqb, ltb}
+use Rattle.target.specs.Pick.{pick}
+use Rattle.nib_text.specs.Kinds.{sameKind}
+use Rattle.nib_text.specs.declared.Kind.{Kind}
+use Rattle.nib_text.specs.declared.Kind.the-variants.{Nothing, Command, Address, DataIn, DataOut, Finish, Protect, Raw}
+use Rattle.nib_text.specs.declared.reading.Word.{Word}
+use Rattle.nib_text.specs.declared.reading.Reading.{Reading}
+use Rattle.nib_text.specs.declared.reading.Wrong.the-variants as wrong
+use Rattle.nib_text.specs.declared.reading.Said.{Said}
+use Rattle.nib_text.specs.declared.reading.Said.the-variants as said
+use Rattle.nib_text.specs.declared.reading.Read.{Read}
+use Rattle.nib_text.specs.declared.reading.Spot.{Spot}
+
+-- 0 to 9, A to F, a to f in ASCII; 16 for any other byte
+unfoldable pub hexValue : ℕ → ℕ
+hexValue b =
+    pick (ltb b 48) 16
+    (pick (ltb b 58) (b - 48)
+    (pick (ltb b 65) 16
+    (pick (ltb b 71) (b - 55)
+    (pick (ltb b 97) 16
+    (pick (ltb b 103) (b - 87)
+    16)))))
+
+-- c a d o f p x in ASCII
+unfoldable pub letterOf : ℕ → Kind
+letterOf b =
+    pick (eqb b 99) Command
+    (pick (eqb b 97) Address
+    (pick (eqb b 100) DataIn
+    (pick (eqb b 111) DataOut
+    (pick (eqb b 102) Finish
+    (pick (eqb b 112) Protect
+    (pick (eqb b 120) Raw
+    Nothing))))))
+
+-- a line end, or the sign of a comment
+abbrev pub endsLine : ℕ → Bool
+endsLine b = eqb b 10 || eqb b 35
+
+-- a space, a tab, a carriage return, or what ends a line
+unfoldable pub isGap : ℕ → Bool
+isGap b = eqb b 32 || eqb b 9 || eqb b 13 || endsLine b
+
+abbrev pub more : ℕ → ℕ
+more n = pick (ltb n 3) (n + 1) n
+
+abbrev pub tenfold : ℕ → ℕ → ℕ
+tenfold n d = pick (ltb n 100000) (n * 10 + d) n
+
+abbrev pub noWord : Word
+noWord = record { length = 0; first = 0; hex = 0; hexed = true; number = 0; numbered = true }
+
+-- a word with one byte more
+unfoldable pub grown : Word → ℕ → Word
+grown w b = record {
+  length = more (w .length);
+  first = pick (eqb (w .length) 0) b (w .first);
+  hex = w .hex % 16 * 16 + hexValue b % 16;
+  hexed = w .hexed && ltb (hexValue b) 16;
+  number = tenfold (w .number) (hexValue b);
+  numbered = w .numbered && ltb (hexValue b) 10;
+}
+
+-- one byte that is a letter
+unfoldable pub isLetter : Word → Bool
+isLetter w = eqb (w .length) 1 && not (sameKind (letterOf (w .first)) Nothing)
+
+-- two hex digits; a number below 256; a count below 65,536
+unfoldable pub isByte : Word → Bool
+isByte w = eqb (w .length) 2 && w .hexed
+
+unfoldable pub isNumber : Word → Bool
+isNumber w = w .numbered && ltb (w .number) 256
+
+unfoldable pub isCount : Word → Bool
+isCount w = w .numbered && ltb (w .number) 65536
+
+unfoldable pub byteSaid : ℕ → Word → Said
+byteSaid kind w = pick (isByte w) (said.Record kind (w .hex)) (said.Wrong wrong.NotByte)
+
+unfoldable pub numberSaid : ℕ → Word → Said
+numberSaid kind w = pick (isNumber w) (said.Record kind (w .number)) (said.Wrong wrong.NotNumber)
+
+unfoldable pub countSaid : Word → Said
+countSaid w = pick (isCount w) (said.Outs (w .number)) (said.Wrong wrong.NotNumber)
+
+unfoldable pub rawSaid : Word → Said
+rawSaid w = pick (isByte w) (said.Byte (w .hex)) (said.Wrong wrong.NotByte)
+
+-- a value, by the letter before it: kind 0 command, 1 address, 2 data in, 3 data out, 4 finish, 5 protect line
+abbrev pub valueSaid : Kind → Word → Said
+valueSaid Nothing w = said.Wrong wrong.NoLetter
+valueSaid Command w = byteSaid 0 w
+valueSaid Address w = byteSaid 1 w
+valueSaid DataIn w = byteSaid 2 w
+valueSaid DataOut w = countSaid w
+valueSaid Finish w = numberSaid 4 w
+valueSaid Protect w = numberSaid 5 w
+valueSaid Raw w = rawSaid w
+
+-- a letter where a value is wanted is wrong; no word says nothing
+unfoldable pub wordSaid : Kind → Bool → Word → Said
+wordSaid k due w =
+    pick (eqb (w .length) 0) said.Nothing
+    (pick (isLetter w) (pick due (said.Wrong wrong.NoValue) said.Nothing)
+    (valueSaid k w))
+
+unfoldable pub wordKind : Kind → Word → Kind
+wordKind k w = pick (isLetter w) (letterOf (w .first)) k
+
+unfoldable pub wordDue : Bool → Word → Bool
+wordDue due w = pick (eqb (w .length) 0) due (isLetter w)
+
+-- the word ends; where the line ends too, no letter counts any more, and one with no value is wrong
+unfoldable pub ended : Reading → ℕ → Read
+ended r b = record {
+  reading = record {
+    comment = eqb b 35;
+    kind = pick (endsLine b) Nothing (wordKind (r .kind) (r .word));
+    due = wordDue (r .due) (r .word) && not (endsLine b);
+    word = noWord;
+  };
+  said =
+      pick (endsLine b && wordDue (r .due) (r .word)) (said.Wrong wrong.NoValue)
+      (wordSaid (r .kind) (r .due) (r .word));
+}
+
+-- a comment goes to the line end
+unfoldable pub passed : Reading → ℕ → Read
+passed r b = record {
+  reading = record { comment = not (eqb b 10); kind = r .kind; due = r .due; word = r .word };
+  said = said.Nothing;
+}
+
+abbrev pub inside : Reading → ℕ → Read
+inside r b = record {
+  reading = record { comment = r .comment; kind = r .kind; due = r .due; word = grown (r .word) b };
+  said = said.Nothing;
+}
+
+-- one byte of text
+unfoldable pub nextOf : Reading → ℕ → Read
+nextOf r b = pick (r .comment) (passed r b) (pick (isGap b) (ended r b) (inside r b))
+
+-- where a text begins. A text ends as if a line end came after it
+unfoldable pub begun : Reading
+begun = record { comment = false; kind = Nothing; due = false; word = noWord }
+
+-- where a text stands, for whoever has to find a word: lines and places are counted from 1
+abbrev pub up : ℕ → ℕ
+up n = pick (ltb n 1000000000000) (n + 1) n
+
+abbrev pub spotBegun : Spot
+spotBegun = record { line = 1; place = 1; start = 1 }
+
+unfoldable pub spotNext : Spot → Reading → ℕ → Spot
+spotNext s r b = record {
+  line = pick (eqb b 10) (up (s .line)) (s .line);
+  place = pick (eqb b 10) 1 (up (s .place));
+  start = pick (eqb (r .word .length) 0 && not (r .comment) && not (isGap b)) (s .place) (s .start);
+}

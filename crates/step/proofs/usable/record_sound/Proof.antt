@@ -1,0 +1,41 @@
+-- `step::usable::record_sound` meets its contract.
+-- Assumes nothing.
+use Rattle.step.specs.Usable.{recordSound}
+use borrow.Author.Needs.{needs}
+use Rattle.step.proofs.usable.record_sound.Statement.{statement}
+use Rattle.step.proofs.usable.record_sound.Tie as tie
+
+in-limits-requires : tie.Need-in-limits-requires
+in-limits-requires c κs = search needs
+
+marks-sound-requires : tie.Need-marks-sound-requires
+marks-sound-requires c κs = search needs
+
+sequence-sound-requires : tie.Need-sequence-sound-requires
+sequence-sound-requires c κs = search needs
+
+output-sound-requires : tie.Need-output-sound-requires
+output-sound-requires c κs = search needs
+
+returns : tie.Need-returns
+unfolding recordSound
+returns c =
+    let c1 = c .before in
+    let c2 = c1 .before in
+    let c6 = c2 .before .before .before .before in
+    rw (
+      c .output-sound .ensures,
+      c1 .sequence-sound .ensures,
+      c2 .marks-sound .ensures,
+      c6 .in-limits .ensures,
+    )
+
+pub record-sound-spec : {M : Type 1} → statement M
+record-sound-spec =
+    tie.close
+    (tie.spec
+    in-limits-requires
+    marks-sound-requires
+    sequence-sound-requires
+    output-sound-requires
+    returns)

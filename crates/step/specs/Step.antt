@@ -1,0 +1,89 @@
+-- One event, whole: the reply, the record after it and every lent byte.
+use mathlib.Core.Path.{_≡_}
+use mathlib.Core.Bool.{Bool, true, false, _&&_}
+use mathlib.Core.List.{List}
+use Prim.Native.Nat.{ℕ, _+_, _*_, _<_}
+use lib.ListN.{length, getD}
+use lib.Dec.{eqb}
+use Rattle.target.specs.Pick.{pick}
+use Rattle.target.specs.Address.{lunOf, blockExists, rowExists}
+use Rattle.target.specs.declared.Event.{Event}
+use Rattle.target.specs.declared.Geometry.{Geometry}
+use Rattle.target.specs.declared.Target.{Target}
+use Rattle.target.specs.declared.Work.{Work}
+use Rattle.target.specs.declared.Work.the-variants as work
+use Rattle.target.specs.declared.Refusal.the-variants.{NotUsable}
+use Rattle.target.specs.declared.Verdict.{Verdict}
+use Rattle.target.specs.declared.Verdict.the-variants as verdicts
+use Rattle.target.specs.declared.Reply.{Reply}
+use Rattle.target.specs.declared.Reply.the-variants.{Accepted, Byte, Refused}
+use Rattle.rules.specs.Rules.{verdict}
+use Rattle.effects.specs.After.{targetAfter, targetRefused, workOf}
+use Rattle.step.specs.Usable.{usable}
+use Rattle.step.specs.Buffers.{pageIndex, spoiltBy, registersAfter, arrayAfter, countsAfter, outputByte}
+
+-- the lent buffers that an event may change
+pub record Buffers : Type 0 where
+  pub array : List ℕ
+  pub registers : List ℕ
+  pub counts : List ℕ
+
+pub record Outcome : Type 0 where
+  pub reply : Reply
+  pub target : Target
+  pub buffers : Buffers
+
+-- a data-out cycle gives a byte
+unfoldable pub replyOf : Target → Event → List ℕ → List ℕ → Reply
+replyOf t e params registers = pick (eqb (e .kind) 3) (Byte (outputByte t params registers (t .decoder .output))) Accepted
+
+-- the buffers after work
+unfoldable pub worked : Geometry → Work → Buffers → Buffers
+worked g w b = record {
+  array = arrayAfter g w (b .array) (b .registers);
+  registers = registersAfter g w (b .array) (b .registers);
+  counts = countsAfter g w (b .counts);
+}
+
+-- an accepted event; `spoilt` says that a program or an erase does not proceed
+unfoldable pub acceptedBy : Target → Event → List ℕ → Buffers → Bool → Outcome
+acceptedBy t e params b spoilt = record {
+  reply = replyOf t e params (b .registers);
+  target = targetAfter t e spoilt;
+  buffers = worked (t .geometry) (workOf (t .geometry) (t .clear) (t .decoder .sequence) e spoilt) b;
+}
+
+unfoldable pub accepted : Target → Event → List ℕ → Buffers → List ℕ → Outcome
+accepted t e params b flags =
+    acceptedBy t e params b (spoiltBy (t .geometry) (t .decoder .sequence) e (b .counts) flags)
+
+-- a record and buffers that rule 13 lets pass, by the verdict
+unfoldable pub byVerdict : Verdict → Target → Event → List ℕ → Buffers → List ℕ → Outcome
+byVerdict verdicts.Accepted t e params b flags = accepted t e params b flags
+byVerdict (verdicts.Refused r) t e params b flags = record { reply = Refused r; target = targetRefused t e; buffers = b }
+
+-- the step where rule 13 does not hold
+unfoldable pub steady : Target → Event → List ℕ → Buffers → List ℕ → Outcome
+steady t e params b flags = byVerdict (verdict t e) t e params b flags
+
+-- rule 13 comes first, and changes nothing
+unfoldable pub stepOf : Target → Event → List ℕ → Buffers → List ℕ → Outcome
+stepOf t e params b flags =
+    pick (usable t (length params) (length (b .array)) (length (b .registers)) (length (b .counts)) (length flags))
+    (steady t e params b flags)
+    (record { reply = Refused NotUsable; target = t; buffers = b })
+
+-- For the code: the buffers have the geometry's lengths, and work stays within them.
+pub record Sizes (g : Geometry) (array registers counts : List ℕ) : Type 0 where
+  pub array-size : length array ≡ g .luns * g .blocks * g .pages * g .page
+  pub registers-size : length registers ≡ g .luns * g .page
+  pub counts-size : length counts ≡ g .luns * g .blocks * g .pages
+
+unfoldable pub Ready : Geometry → Work → List ℕ → Type 0
+Ready g work.Nothing counts = Unit
+Ready g work.ClearAll counts = Unit
+Ready g (work.ClearOne l) counts = l < g .luns
+Ready g (work.Load r) counts = rowExists g r ≡ true
+Ready g (work.Put l c v) counts = (l < g .luns) × (c .0 < g .page)
+Ready g (work.Program r) counts = (rowExists g r ≡ true) × (getD counts (pageIndex g r) 0 < 255)
+Ready g (work.Erase r) counts = blockExists g r ≡ true

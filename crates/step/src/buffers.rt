@@ -1,0 +1,245 @@
+// Work on the lent buffers: each kind of work is a call of a cell on a part.
+use slices::and_part;
+use slices::byte_at;
+use slices::copy_part;
+use slices::fill;
+use slices::fill_part;
+use slices::put;
+use slices::put_part;
+use target::Column;
+use target::Event;
+use target::First;
+use target::Geometry;
+use target::Output;
+use target::Row;
+use target::Sequence;
+use target::Target;
+use target::Work;
+use target::address::block_of;
+use target::address::lun_of;
+use target::address::page_of;
+use target::picks::pick_byte;
+use target::place::failed;
+use target::place::works;
+ghost use mathlib.Core.Path.{_≡_};
+ghost use mathlib.Core.Bool.{true};
+ghost use Prim.Native.Nat.{_+_, _*_, _≤_, _<_};
+ghost use lib.ListN.{length, getD, set};
+ghost use Rattle.target.specs.Pick.{pick};
+ghost use Rattle.target.specs.Address.{rowExists, blockExists};
+ghost use Rattle.target.specs.Sizes.{inLimits};
+ghost use Rattle.target.specs.declared.Column.{Column};
+ghost use Rattle.target.specs.declared.Work.the-variants as work;
+ghost use Rattle.step.specs.Usable.{dueSound, sequenceSound, outputSound};
+ghost use Rattle.step.specs.Buffers.{blockIndex, pageIndex, registersAfter, arrayAfter, countsAfter, blockBad, pageFull, dueSpoilt, commandSpoilt, spoiltBy, statusOf, outputByte};
+ghost use Rattle.step.specs.Step.{Sizes, Ready};
+
+pub fn block_index(g: Geometry, r: Row) -> usize
+    requires { ⌜ (inLimits g ≡ true) × (blockExists g r ≡ true) ⌝ }
+    ensures { λ n. ⌜ n ≡ blockIndex g r ⌝ }
+{
+    lun_of(g, r) * g.blocks + block_of(g, r)
+}
+
+pub fn page_index(g: Geometry, r: Row) -> usize
+    requires { ⌜ (inLimits g ≡ true) × (rowExists g r ≡ true) ⌝ }
+    ensures { λ n. ⌜ n ≡ pageIndex g r ⌝ }
+{
+    block_index(g, r) * g.pages + page_of(g, r)
+}
+
+pub fn block_bad(g: Geometry, r: Row, flags: &[u8]) -> bool
+    requires { ⌜ (inLimits g ≡ true) × (blockExists g r ≡ true) ⌝ }
+    ensures { λ b. ⌜ b ≡ blockBad g r (now (flags .entry)) ⌝ }
+{
+    !(byte_at(flags, block_index(g, r)) == 0)
+}
+
+pub fn page_full(g: Geometry, r: Row, counts: &[u8]) -> bool
+    requires { ⌜ (inLimits g ≡ true) × (rowExists g r ≡ true) ⌝ }
+    ensures { λ b. ⌜ b ≡ pageFull g r (now (counts .entry)) ⌝ }
+{
+    let n = byte_at(counts, page_index(g, r)) as usize;
+    g.programs <= n
+}
+
+pub fn due_spoilt(g: Geometry, f: First, r: Row, flags: &[u8]) -> bool
+    requires { ⌜ inLimits g ≡ true ⌝ }
+    requires { ⌜ ((c : Column) × (dueSound g f c r ≡ true)) ⌝ }
+    ensures { λ b. ⌜ b ≡ dueSpoilt g f r (now (flags .entry)) ⌝ }
+{
+    match f {
+        First::Read => false,
+        First::Jump => false,
+        First::Fetch => false,
+        First::Erase => block_bad(g, r, flags),
+        First::Status => false,
+        First::Look => false,
+        First::Program => false,
+        First::Identify => false,
+        First::Parameters => false,
+        First::GetFeature => false,
+        First::SetFeature => false,
+    }
+}
+
+pub fn command_spoilt(g: Geometry, s: Sequence, counts: &[u8], flags: &[u8]) -> bool
+    requires { ⌜ (inLimits g ≡ true) × (sequenceSound g s ≡ true) ⌝ }
+    ensures { λ b. ⌜ b ≡ commandSpoilt g s (now (counts .entry)) (now (flags .entry)) ⌝ }
+{
+    match s {
+        Sequence::Idle => false,
+        Sequence::Columns {
+            first: _,
+            got: _,
+            low: _,
+        } => false,
+        Sequence::Rows {
+            first: _,
+            column: _,
+            got: _,
+            low: _,
+            mid: _,
+        } => false,
+        Sequence::Single { first: _ } => false,
+        Sequence::Due {
+            first,
+            column: _,
+            row,
+        } => due_spoilt(g, first, row, flags),
+        Sequence::Filling { row, at: _ } => block_bad(g, row, flags) | page_full(g, row, counts),
+        Sequence::Moving {
+            row: _,
+            got: _,
+            low: _,
+        } => false,
+        Sequence::Setting { got: _, value: _ } => false,
+    }
+}
+
+// Only a command can start work that does not proceed.
+pub fn spoilt(g: Geometry, s: Sequence, e: Event, counts: &[u8], flags: &[u8]) -> bool
+    requires { ⌜ (inLimits g ≡ true) × (sequenceSound g s ≡ true) ⌝ }
+    ensures { λ b. ⌜ b ≡ spoiltBy g s e (now (counts .entry)) (now (flags .entry)) ⌝ }
+{
+    if e.kind == 0 {
+        command_spoilt(g, s, counts, flags)
+    } else {
+        false
+    }
+}
+
+// `n` where the test holds, else 0.
+pub fn weigh(b: bool, n: u8) -> u8
+    ensures { λ r. ⌜ (r ≡ pick b n 0) × (r ≤ n) ⌝ }
+{
+    if b { n } else { 0 }
+}
+
+pub fn status(t: Target, l: usize) -> u8
+    ensures { λ r. ⌜ r ≡ statusOf t l ⌝ }
+{
+    let luns = t.luns;
+    let idle = !works(luns, l);
+    weigh(t.high, 128) + weigh(idle, 96) + weigh(idle & failed(luns, l), 1)
+}
+
+pub fn output_byte(t: Target, params: &[u8], registers: &[u8], o: Output) -> u8
+    requires { ⌜ (inLimits (t .geometry) ≡ true) × (outputSound (t .geometry) o ≡ true) ⌝ }
+    ensures { λ r. ⌜ r ≡ outputByte t (now (params .entry)) (now (registers .entry)) o ⌝ }
+{
+    let g = t.geometry;
+    let ids = t.ids;
+    match o {
+        Output::Nothing => 0,
+        Output::Register { lun, column } => byte_at(registers, lun * g.page + column.0),
+        Output::Parameters { at } => byte_at(params, at % 256),
+        Output::Status { lun } => status(t, lun),
+        Output::Ids { at } => pick_byte(at == 0, ids.maker, ids.device),
+        Output::Signature { at } => pick_byte(
+            at == 0,
+            0x4f,
+            pick_byte(at == 1, 0x4e, pick_byte(at == 2, 0x46, 0x49)),
+        ),
+        Output::Feature { at } => pick_byte((at == 0) & t.clear, 0x40, 0),
+    }
+}
+
+// 30h: the page into its LUN's register.
+pub fn load(g: Geometry, r: Row, array: &[u8], registers: &mut [u8])
+    requires { ⌜ (inLimits g ≡ true) × (rowExists g r ≡ true) ⌝ }
+    requires { ⌜ (length (now array) ≡ g .luns * g .blocks * g .pages * g .page) × (length (now registers) ≡ g .luns * g .page) ⌝ }
+    ensures { λ _. ⌜ now (registers .exit) ≡ registersAfter g (work.Load r) (now (array .entry)) (now (registers .entry)) ⌝ }
+{
+    let p = g.page;
+    let at = lun_of(g, r) * p;
+    let from = page_index(g, r) * p;
+    copy_part(registers, at, p, array, from)
+}
+
+// A data-in byte: the addressed LUN's part of the register buffer is lent on, and written at the column.
+pub fn store(g: Geometry, l: usize, c: Column, v: u8, registers: &mut [u8])
+    requires { ⌜ (l < g .luns) × (c .0 < g .page) × (length (now registers) ≡ g .luns * g .page) ⌝ }
+    ensures { λ _. ⌜ now (registers .exit) ≡ registersAfter g (work.Put l c v) (now (registers .entry)) (now (registers .entry)) ⌝ }
+{
+    let p = g.page;
+    let i = c.0;
+    put_part(registers, l * p, p, i, v)
+}
+
+// 10h: the register ANDed into the page, and one program more.
+pub fn burn(g: Geometry, r: Row, array: &mut [u8], registers: &[u8], counts: &mut [u8])
+    requires { ⌜ (inLimits g ≡ true) × (rowExists g r ≡ true) × (getD (now counts) (pageIndex g r) 0 < 255) ⌝ }
+    requires { ⌜ Sizes g (now array) (now registers) (now counts) ⌝ }
+    ensures array { λ _. ⌜ now (array .exit) ≡ arrayAfter g (work.Program r) (now (array .entry)) (now (registers .entry)) ⌝ }
+    ensures counts { λ _. ⌜ now (counts .exit) ≡ countsAfter g (work.Program r) (now (counts .entry)) ⌝ }
+{
+    let p = g.page;
+    let i = page_index(g, r);
+    let from = lun_of(g, r) * p;
+    and_part(array, i * p, p, registers, from);
+    let n = byte_at(counts, i);
+    put(counts, i, n + 1)
+}
+
+// D0h: the block's bytes FFh, its counts 0.
+pub fn wipe(g: Geometry, r: Row, array: &mut [u8], counts: &mut [u8])
+    requires { ⌜ (inLimits g ≡ true) × (blockExists g r ≡ true) ⌝ }
+    requires { ⌜ (length (now array) ≡ g .luns * g .blocks * g .pages * g .page) × (length (now counts) ≡ g .luns * g .blocks * g .pages) ⌝ }
+    ensures array { λ _. ⌜ now (array .exit) ≡ arrayAfter g (work.Erase r) (now (array .entry)) (now (array .entry)) ⌝ }
+    ensures counts { λ _. ⌜ now (counts .exit) ≡ countsAfter g (work.Erase r) (now (counts .entry)) ⌝ }
+{
+    let p = g.page;
+    let n = g.pages;
+    let first = block_index(g, r) * n;
+    fill_part(array, first * p, n * p, 0xff);
+    fill_part(counts, first, n, 0)
+}
+
+pub fn clear_one(g: Geometry, l: usize, registers: &mut [u8])
+    requires { ⌜ (l < g .luns) × (length (now registers) ≡ g .luns * g .page) ⌝ }
+    ensures { λ _. ⌜ now (registers .exit) ≡ registersAfter g (work.ClearOne l) (now (registers .entry)) (now (registers .entry)) ⌝ }
+{
+    let p = g.page;
+    fill_part(registers, l * p, p, 0xff)
+}
+
+// The work, on whichever buffers it is for.
+pub fn perform(g: Geometry, w: Work, array: &mut [u8], registers: &mut [u8], counts: &mut [u8])
+    requires { ⌜ inLimits g ≡ true ⌝ }
+    requires { ⌜ Ready g w (now counts) ⌝ }
+    requires { ⌜ Sizes g (now array) (now registers) (now counts) ⌝ }
+    ensures array { λ _. ⌜ now (array .exit) ≡ arrayAfter g w (now (array .entry)) (now (registers .entry)) ⌝ }
+    ensures registers { λ _. ⌜ now (registers .exit) ≡ registersAfter g w (now (array .entry)) (now (registers .entry)) ⌝ }
+    ensures counts { λ _. ⌜ now (counts .exit) ≡ countsAfter g w (now (counts .entry)) ⌝ }
+{
+    match w {
+        Work::Nothing => {}
+        Work::ClearAll => fill(registers, 0xff),
+        Work::ClearOne { lun } => clear_one(g, lun, registers),
+        Work::Load { row } => load(g, row, array, registers),
+        Work::Put { lun, column, value } => store(g, lun, column, value, registers),
+        Work::Program { row } => burn(g, row, array, registers, counts),
+        Work::Erase { row } => wipe(g, row, array, counts),
+    }
+}

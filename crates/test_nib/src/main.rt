@@ -1,0 +1,71 @@
+// Every command of nib that takes an input or a file, one after the other, on the files of data/. `nib` itself runs `demo`.
+use nib_args::Asked;
+use nib_app::act;
+use libc::STDOUT_FILENO;
+
+fn title(words: &[u8]) {
+    io::write_all(STDOUT_FILENO, b"== ");
+    io::write_all(STDOUT_FILENO, words);
+    io::write_all(STDOUT_FILENO, b"\n");
+}
+
+// A command over the file `input`.
+fn tried(words: &[u8], asked: Asked, second: &[u8], third: &[u8], input: &[u8]) {
+    let mut out = [0u8; 65536];
+    title(words);
+    let fd = os::open_read(input);
+    act(asked, second, third, fd, &mut out);
+    libc::close(fd);
+}
+
+fn texts() {
+    tried(b"text", Asked::Text, b"", b"", b"script");
+    tried(b"text -d", Asked::Back, b"", b"", b"trace");
+    tried(b"text -d, of many", Asked::Back, b"", b"", b"many");
+    tried(b"text, of many", Asked::Text, b"", b"", b"many_text");
+    tried(b"help", Asked::Help, b"", b"", b"look");
+}
+
+fn runs() {
+    tried(b"explain tiny", Asked::Explain, b"tiny", b"", b"trace");
+    tried(b"explain dark", Asked::Explain, b"dark", b"", b"look");
+    tried(b"run tiny", Asked::Run, b"tiny", b"", b"trace");
+    tried(
+        b"explain tiny after the run",
+        Asked::Explain,
+        b"tiny",
+        b"",
+        b"look",
+    );
+}
+
+fn pages() {
+    tried(b"page real_page", Asked::Page, b"real_page", b"", b"look");
+    tried(
+        b"page damaged_page",
+        Asked::Page,
+        b"damaged_page",
+        b"",
+        b"look",
+    );
+    tried(b"page wrong_page", Asked::Page, b"wrong_page", b"", b"look");
+}
+
+fn folders() {
+    tried(b"new made", Asked::New, b"made", b"", b"look");
+    tried(b"explain made", Asked::Explain, b"made", b"", b"look");
+    tried(
+        b"new again tiny/page",
+        Asked::NewFrom,
+        b"again",
+        b"tiny/page",
+        b"look",
+    );
+}
+
+fn main() {
+    texts();
+    runs();
+    pages();
+    folders();
+}

@@ -1,0 +1,381 @@
+-- Demand 1 and the soundness of rule 13, as specs/Promises.antt states them.
+-- Assumes nothing.
+use mathlib.Core.Path.{_≡_, refl, sym, ap, subst, _∙_}
+use mathlib.Core.Bool.{Bool, true, false, _&&_, _||_, not, false≢true}
+use mathlib.Core.List.{List, [], _∷_}
+use mathlib.Core.Logic.{_⊎_, inl, inr, ⊎-elim}
+use Prim.Native.Nat.{ℕ, _+_, _*_, _≤_, _<_}
+use native.Mathlib.Omega.{arith}
+use lib.ListN.{length, replicate, length-replicate}
+use lib.Dec.{eqb, ltb, leb}
+use borrow.Author.Tests.{not-true, not-false, eqb-true, lt-ltb, eq-eqb}
+use Rattle.target.specs.Pick.{pick, orElse}
+use Rattle.target.specs.Events.{isBus, isReset, badRecord}
+use Rattle.target.specs.Place.{ready, takesSecond}
+use Rattle.target.specs.Commands.{secondOf, classOf, offered}
+use Rattle.target.specs.Sizes.{inLimits, sized}
+use Rattle.target.specs.declared.Event.{Event}
+use Rattle.target.specs.declared.Geometry.{Geometry}
+use Rattle.target.specs.declared.Target.{Target}
+use Rattle.target.specs.declared.Decoder.{Decoder}
+use Rattle.target.specs.declared.Row.{Row}
+use Rattle.target.specs.declared.First.{First}
+use Rattle.target.specs.declared.First.the-variants.{Read, Jump, Fetch, Erase, Status, Look, Program, Identify, Parameters, GetFeature, SetFeature}
+use Rattle.target.specs.declared.Sequence.{Sequence}
+use Rattle.target.specs.declared.Sequence.the-variants.{Idle, Columns, Rows, Single, Due, Filling, Moving, Setting}
+use Rattle.target.specs.declared.Output.the-variants as output
+use Rattle.target.specs.declared.Refusal.{Refusal}
+use Rattle.target.specs.declared.Refusal.the-variants as refusal
+use Rattle.target.specs.declared.Reply.{Reply}
+use Rattle.target.specs.declared.Reply.the-variants as reply
+use Rattle.target.specs.declared.Verdict.{Verdict}
+use Rattle.target.specs.declared.Verdict.the-variants as verdicts
+use Rattle.target.specs.declared.Work.{Work}
+use Rattle.target.specs.declared.Work.the-variants as work
+use Rattle.target.proofs.Both.{both, neither, other}
+use Rattle.target.proofs.Limits.{limits}
+use Rattle.rules.specs.Rules.{verdict, unknown, beforeReset, fits, misplaced, outOfRange, lunWorks, othersBusy, lineLow, pastEnd, notOffered, notWorking, lineHeld}
+use Rattle.rules.proofs.ByKind.{command-verdict}
+use Rattle.rules.proofs.Passed.{all-passed}
+use Rattle.effects.specs.After.{dueTask, commandWork, addressWork, dataWork, isProgram, workOf, targetAfter, targetRefused, lunsAfter}
+use Rattle.page.specs.Page.{fieldsInLimits}
+use Rattle.power.specs.Power.{geometryOf, poweredOf, unpowered, wrongLength, fieldBad, bufferBad, powerAnswer, powering, powerOf}
+use Rattle.power.specs.declared.PowerRefusal.{PowerRefusal}
+use Rattle.power.specs.declared.PowerAnswer.{PowerAnswer}
+use Rattle.power.specs.declared.PowerAnswer.the-variants as power
+use Rattle.power.proofs.Answers.{Passed, all-passed as all-power-passed, limited, accepted-limited}
+use Rattle.step.specs.Usable.{marksSound, recordSound, usable}
+use Rattle.step.specs.Buffers.{spoiltBy, arrayAfter, countsAfter}
+use Rattle.step.specs.Step.{Buffers, Outcome, replyOf, worked, acceptedBy, accepted, byVerdict, steady, stepOf}
+use Rattle.thm_kept.proofs.Choice.{by-pick, and-true, then-not, or-true}
+use Rattle.thm_kept.proofs.Kept.{Fit, step-usable, step-steady, all-sound}
+use Rattle.thm_demands.specs.Runs.{State, stepAt, left, after, poweredUp}
+use Rattle.thm_demands.specs.Exact.{rulesOf, speaks}
+use Rattle.thm_demands.proofs.Exact.{exact}
+use Rattle.thm_demands.specs.Promises.{dropped, RefusedCycle, BadChangesNothing, RefusedBench, RefusedPower, Preserved, LineLow, lowThrough, LineLowRun, reset, ResetReadies, NeverUnusable}
+
+-- two constructors are never equal
+apart : _≡_ {A = ℕ} 0 1 → ⊥
+apart h = omega arith
+
+-- a rule that gives another refusal does not give this one
+not-it : (x : Bool) (r : Refusal) (v : Verdict) → (r ≡ refusal.NotUsable → ⊥) → (v ≡ verdicts.Refused refusal.NotUsable → ⊥) → orElse x r v ≡ verdicts.Refused refusal.NotUsable → ⊥
+unfolding orElse
+not-it true r v other rest h = other (cc)
+not-it false r v other rest h = rest h
+
+-- the rules after 13 never give 13
+never-13 : (t : Target) (e : Event) → verdict t e ≡ verdicts.Refused refusal.NotUsable → ⊥
+unfolding verdict
+never-13 t e =
+    not-it _ refusal.BadRecord _ (λ z. apart (cc)) (not-it _ refusal.BeforeReset _ (λ z. apart (cc)) (not-it _ refusal.Unknown _ (λ z. apart (cc))
+    (not-it _ refusal.Misplaced _ (λ z. apart (cc)) (not-it _ refusal.OthersWork _ (λ z. apart (cc)) (not-it _ refusal.OutOfRange _ (λ z. apart (cc))
+    (not-it _ refusal.NotOffered _ (λ z. apart (cc)) (not-it _ refusal.LunWorks _ (λ z. apart (cc)) (not-it _ refusal.Protected _ (λ z. apart (cc))
+    (not-it _ refusal.PastEnd _ (λ z. apart (cc)) (not-it _ refusal.NotWorking _ (λ z. apart (cc)) (not-it _ refusal.LineHeld _ (λ z. apart (cc))
+    (λ z. apart (cc)))))))))))))
+
+module _ (t : Target) (e : Event) (page : List ℕ) (b : Buffers) (flags : List ℕ) where
+  -- an accepted event is not answered with a refusal
+  not-refused : (r : Refusal) → replyOf t e page (b .registers) ≡ reply.Refused r → ⊥
+  unfolding replyOf
+  not-refused r h =
+      by-pick (λ (a : Reply). a ≡ reply.Refused r → ⊥) (eqb (e .kind) 3) (reply.Byte _) reply.Accepted
+      (λ _ k. apart (cc))
+      (λ _ k. apart (cc))
+      h
+
+  -- what a refusal of each kind leaves
+  refused-by : (v : Verdict) (r : Refusal) → byVerdict v t e page b flags .reply ≡ reply.Refused r → (v ≡ verdicts.Refused r) × (byVerdict v t e page b flags ≡ record { reply = reply.Refused r; target = targetRefused t e; buffers = b })
+  unfolding byVerdict accepted acceptedBy
+  refused-by verdicts.Accepted r h = absurd (not-refused r h)
+  refused-by (verdicts.Refused q) r h =
+      let same : q ≡ r = cc in
+      (ap verdicts.Refused same, ap (λ (x : Refusal). record { reply = reply.Refused x; target = targetRefused t e; buffers = b }) same)
+
+  by-usable : (ok : Bool) (r : Refusal) → pick ok (steady t e page b flags) (record { reply = reply.Refused refusal.NotUsable; target = t; buffers = b }) .reply ≡ reply.Refused r
+      → ((ok ≡ true) × (verdict t e ≡ verdicts.Refused r) × (pick ok (steady t e page b flags) (record { reply = reply.Refused refusal.NotUsable; target = t; buffers = b }) ≡ record { reply = reply.Refused r; target = targetRefused t e; buffers = b }))
+      ⊎ ((r ≡ refusal.NotUsable) × (pick ok (steady t e page b flags) (record { reply = reply.Refused refusal.NotUsable; target = t; buffers = b }) ≡ record { reply = reply.Refused r; target = t; buffers = b }))
+  unfolding steady
+  by-usable true r h = let p = refused-by (verdict t e) r h in inl (refl, p .0, p .1)
+  by-usable false r h =
+      let same : refusal.NotUsable ≡ r = cc in
+      inr (sym same, ap (λ (x : Refusal). record { reply = reply.Refused x; target = t; buffers = b }) same)
+
+  -- the two ways of a refusal, of the step itself
+  refused : (r : Refusal) → stepOf t e page b flags .reply ≡ reply.Refused r
+      → ((verdict t e ≡ verdicts.Refused r) × (stepOf t e page b flags ≡ record { reply = reply.Refused r; target = targetRefused t e; buffers = b }))
+      ⊎ ((r ≡ refusal.NotUsable) × (stepOf t e page b flags ≡ record { reply = reply.Refused r; target = t; buffers = b }))
+  unfolding stepOf
+  refused r h = ⊎-elim (λ p. inl (p .1, p .2)) (λ p. inr p) (by-usable (usable t (length page) (length (b .array)) (length (b .registers)) (length (b .counts)) (length flags)) r h)
+
+  -- a record that is bad is refused so, whatever else holds
+  bad-first : badRecord e ≡ true → verdict t e ≡ verdicts.Refused refusal.BadRecord
+  unfolding verdict orElse
+  bad-first h = rw (h)
+
+  -- the record after a refused bus cycle, a refused bench event, a bad record
+  after-cycle : isBus e ≡ true → badRecord e ≡ false → targetRefused t e ≡ dropped t
+  unfolding targetRefused
+  after-cycle h k = rw (h, k)
+
+  after-bench : isBus e ≡ false → targetRefused t e ≡ t
+  unfolding targetRefused
+  after-bench h = rw (h)
+
+  after-bad : badRecord e ≡ true → targetRefused t e ≡ t
+  unfolding targetRefused
+  after-bad h = rw (h) (by (isBus e))
+    where
+      by : (x : Bool) → _≡_ {A = Target} (record { powered = t .powered; geometry = t .geometry; options = t .options; ids = t .ids; high = t .high; clear = t .clear; seen = t .seen; selected = t .selected; luns = t .luns; decoder = pick (x && false) (record { sequence = Idle; output = output.Nothing }) (t .decoder) }) t
+      by true = refl
+      by false = refl
+
+  good-or-bad : (x : Bool) → badRecord e ≡ x → (badRecord e ≡ true) ⊎ (badRecord e ≡ false)
+  good-or-bad true h = inl h
+  good-or-bad false h = inr h
+
+  -- only a bad record is refused with 12
+  bad-told : stepOf t e page b flags .reply ≡ reply.Refused refusal.BadRecord → badRecord e ≡ true
+  unfolding rulesOf
+  bad-told h =
+      let ok = usable t (length page) (length (b .array)) (length (b .registers)) (length (b .counts)) (length flags) in
+      both (not (not ok)) (badRecord e) (exact t e page b flags .only-then refusal.BadRecord h) .1
+
+  -- what a refusal leaves, by what the record after it is
+  settled : (r : Refusal) (n : Target) → targetRefused t e ≡ n → (r ≡ refusal.NotUsable → t ≡ n) → stepOf t e page b flags .reply ≡ reply.Refused r → stepOf t e page b flags ≡ record { reply = reply.Refused r; target = n; buffers = b }
+  settled r n same unusable h =
+      ⊎-elim
+      (λ p. p .1 ∙ ap (λ (x : Target). record { reply = reply.Refused r; target = x; buffers = b }) same)
+      (λ p. p .1 ∙ ap (λ (x : Target). record { reply = reply.Refused r; target = x; buffers = b }) (unusable (p .0)))
+      (refused r h)
+
+  -- a refusal of another number than 12 and 13 is not of a bad record
+  good-record : (r : Refusal) → stepOf t e page b flags .reply ≡ reply.Refused r → (r ≡ refusal.BadRecord → ⊥) → (r ≡ refusal.NotUsable → ⊥) → badRecord e ≡ false
+  good-record r h other usable-too =
+      ⊎-elim
+      (λ bad. absurd (⊎-elim
+      (λ p. let q : verdicts.Refused refusal.BadRecord ≡ verdicts.Refused r = sym (bad-first bad) ∙ p .0 in other (cc))
+      (λ p. usable-too (p .0))
+      (refused r h)))
+      (λ good. good)
+      (good-or-bad (badRecord e) refl)
+
+pub refused-cycle : RefusedCycle
+refused-cycle t e page b flags r bus h other usable-too =
+    settled t e page b flags r (dropped t)
+    (after-cycle t e page b flags bus (good-record t e page b flags r h other usable-too))
+    (λ is. absurd (usable-too is)) h
+
+pub bad-changes-nothing : BadChangesNothing
+bad-changes-nothing t e page b flags r h which =
+    ⊎-elim
+    (λ (is : r ≡ refusal.BadRecord).
+    settled t e page b flags r t (after-bad t e page b flags (bad-told t e page b flags (h ∙ ap reply.Refused is))) (λ _. refl) h)
+    (λ (is : r ≡ refusal.NotUsable).
+    ⊎-elim
+    (λ p. absurd (never-13 t e (p .0 ∙ ap verdicts.Refused is)))
+    (λ p. p .1)
+    (refused t e page b flags r h))
+    which
+
+pub refused-bench : RefusedBench
+refused-bench t e page b flags r bench h = settled t e page b flags r t (after-bench t e page b flags bench) (λ _. refl) h
+
+pub refused-power : RefusedPower
+unfolding powerOf
+refused-power page device array registers counts flags r h = by (powerAnswer page (length array) (length registers) counts flags) h
+  where
+    by : (a : PowerAnswer) → powering a page device registers .answer ≡ power.Refused r → powering a page device registers ≡ record { answer = power.Refused r; target = unpowered; registers = registers }
+    by power.Accepted k = absurd (apart (cc))
+    by (power.Refused q) k = let is : q ≡ r = cc in ap (λ (x : PowerRefusal). record { answer = power.Refused x; target = unpowered; registers = registers }) is
+
+-- small laws of tests
+then-true : (x : Bool) → (true && not x) ≡ false → x ≡ true
+then-true true h = refl
+then-true false h = absurd (false≢true (sym h))
+
+not-both : (a b c : Bool) → a ≡ true → c ≡ false → (a && b && not c) ≡ false → b ≡ false
+not-both true true c h k l = absurd (false≢true (sym l ∙ ap not k))
+not-both true false c h k l = refl
+not-both false b c h k l = absurd (false≢true h)
+
+steady-reply : (t : Target) (e : Event) (page : List ℕ) (b : Buffers) (flags : List ℕ) → byVerdict (verdict t e) t e page b flags .reply ≡ steady t e page b flags .reply
+unfolding steady
+steady-reply t e page b flags = refl
+
+-- The protect line.
+
+-- work that is neither a program nor an erase
+abbrev spares : Work → Bool
+spares work.Nothing = true
+spares work.ClearAll = true
+spares (work.ClearOne l) = true
+spares (work.Load r) = true
+spares (work.Put l c v) = true
+spares (work.Program r) = false
+spares (work.Erase r) = false
+
+spared : (g : Geometry) (w : Work) (b : Buffers) → spares w ≡ true → Preserved b (worked g w b)
+unfolding worked arrayAfter countsAfter
+spared g work.Nothing b h = record { array = refl; counts = refl }
+spared g work.ClearAll b h = record { array = refl; counts = refl }
+spared g (work.ClearOne l) b h = record { array = refl; counts = refl }
+spared g (work.Load r) b h = record { array = refl; counts = refl }
+spared g (work.Put l c v) b h = record { array = refl; counts = refl }
+spared g (work.Program r) b h = absurd (false≢true h)
+spared g (work.Erase r) b h = absurd (false≢true h)
+
+spares-pick : (x : Bool) (w v : Work) → (x ≡ true → spares w ≡ true) → (x ≡ false → spares v ≡ true) → spares (pick x w v) ≡ true
+spares-pick x w v h k = by-pick (λ (z : Work). spares z ≡ true) x w v h k
+
+-- D0h is the second command of 60h
+due-spares : (f : First) (r : Row) (v : ℕ) (spoilt : Bool) → eqb v (secondOf f) ≡ true → eqb v 0xd0 ≡ false → spares (dueTask f r spoilt) ≡ true
+due-spares Read r v spoilt h k = refl
+due-spares Jump r v spoilt h k = refl
+due-spares Fetch r v spoilt h k = refl
+due-spares Erase r v spoilt h k = absurd (false≢true (sym k ∙ h))
+due-spares Status r v spoilt h k = refl
+due-spares Look r v spoilt h k = refl
+due-spares Program r v spoilt h k = refl
+due-spares Identify r v spoilt h k = refl
+due-spares Parameters r v spoilt h k = refl
+due-spares GetFeature r v spoilt h k = refl
+due-spares SetFeature r v spoilt h k = refl
+
+-- a command that fits and is neither 10h nor D0h
+command-spares : (clear : Bool) (s : Sequence) (v : ℕ) (spoilt : Bool) → takesSecond s v ≡ true → eqb v 0x10 ≡ false → eqb v 0xd0 ≡ false → spares (commandWork clear s v spoilt) ≡ true
+command-spares clear Idle v spoilt h p d = spares-pick (eqb v 0x80 && not clear) work.ClearAll work.Nothing (λ _. refl) (λ _. refl)
+command-spares clear (Columns f got low) v spoilt h p d = refl
+command-spares clear (Rows f c got low mid) v spoilt h p d = refl
+command-spares clear (Single f) v spoilt h p d = refl
+command-spares clear (Due f c r) v spoilt h p d = due-spares f r v spoilt h d
+command-spares clear (Filling r at) v spoilt h p d =
+    spares-pick (eqb v 0x10 && not spoilt) (work.Program r) work.Nothing
+    (λ is. absurd (false≢true (sym p ∙ both (eqb v 0x10) (not spoilt) is .0)))
+    (λ _. refl)
+command-spares clear (Moving r got low) v spoilt h p d = refl
+command-spares clear (Setting got value) v spoilt h p d = refl
+
+address-spares : (g : Geometry) (clear : Bool) (s : Sequence) (v : ℕ) → spares (addressWork g clear s v) ≡ true
+address-spares g clear Idle v = refl
+address-spares g clear (Columns f got low) v = refl
+address-spares g clear (Rows f c got low mid) v = spares-pick (isProgram f && eqb got 2 && clear) _ work.Nothing (λ _. refl) (λ _. refl)
+address-spares g clear (Single f) v = refl
+address-spares g clear (Due f c r) v = refl
+address-spares g clear (Filling r at) v = refl
+address-spares g clear (Moving r got low) v = refl
+address-spares g clear (Setting got value) v = refl
+
+data-spares : (g : Geometry) (s : Sequence) (v : ℕ) → spares (dataWork g s v) ≡ true
+data-spares g Idle v = refl
+data-spares g (Columns f got low) v = refl
+data-spares g (Rows f c got low mid) v = refl
+data-spares g (Single f) v = refl
+data-spares g (Due f c r) v = refl
+data-spares g (Filling r at) v = refl
+data-spares g (Moving r got low) v = refl
+data-spares g (Setting got value) v = refl
+
+-- a command that is accepted fits, and with the line low it is neither 10h nor D0h
+module _ (t : Target) (e : Event) (h : verdict t e ≡ verdicts.Accepted) (k : eqb (e .kind) 0 ≡ true) where
+  command-fits : isReset e ≡ false → takesSecond (t .decoder .sequence) (e .value) ≡ true
+  unfolding misplaced fits
+  command-fits plain =
+      let v = e .value in
+      let s = t .decoder .sequence in
+      let zero : e .kind ≡ 0 = eqb-true (e .kind) 0 k in
+      let placed = all-passed t e h .rule-3 in
+      other (eqb v 0xff) (takesSecond s v) (then-true (eqb v 0xff || takesSecond s v) (rw (zero) at placed)) (then-not (eqb (e .kind) 0) (eqb v 0xff) plain k)
+
+  low-command : t .high ≡ false → (eqb (e .value) 0x10 ≡ false) × (eqb (e .value) 0xd0 ≡ false)
+  unfolding lineLow
+  low-command low =
+      let either = eqb (e .value) 0x10 || eqb (e .value) 0xd0 in
+      let line = all-passed t e h .rule-7 in
+      neither (eqb (e .value) 0x10) (eqb (e .value) 0xd0) (not-both (eqb (e .kind) 0) either (t .high) k low line)
+
+low-spares : (t : Target) (e : Event) (spoilt : Bool) → verdict t e ≡ verdicts.Accepted → t .high ≡ false → spares (workOf (t .geometry) (t .clear) (t .decoder .sequence) e spoilt) ≡ true
+unfolding workOf
+low-spares t e spoilt h low =
+    let g = t .geometry in
+    let s = t .decoder .sequence in
+    let v = e .value in
+    let w2 = pick (eqb (e .kind) 2) (dataWork g s v) work.Nothing in
+    let w1 = pick (eqb (e .kind) 1) (addressWork g (t .clear) s v) w2 in
+    let w0 = pick (eqb (e .kind) 0) (commandWork (t .clear) s v spoilt) w1 in
+    spares-pick (isReset e) work.ClearAll w0 (λ _. refl)
+    (λ plain. spares-pick (eqb (e .kind) 0) (commandWork (t .clear) s v spoilt) w1
+    (λ is. let n = low-command t e h is low in command-spares (t .clear) s v spoilt (command-fits t e h is plain) (n .0) (n .1))
+    (λ _. spares-pick (eqb (e .kind) 1) (addressWork g (t .clear) s v) w2 (λ _. address-spares g (t .clear) s v)
+    (λ _. spares-pick (eqb (e .kind) 2) (dataWork g s v) work.Nothing (λ _. data-spares g s v) (λ _. refl))))
+
+same-buffers : (b : Buffers) → Preserved b b
+same-buffers b = record { array = refl; counts = refl }
+
+module _ (t : Target) (e : Event) (page : List ℕ) (b : Buffers) (flags : List ℕ) (low : t .high ≡ false) where
+  low-verdict : (v : Verdict) → verdict t e ≡ v → Preserved b (byVerdict v t e page b flags .buffers)
+  unfolding byVerdict accepted acceptedBy
+  low-verdict verdicts.Accepted h = spared (t .geometry) _ b (low-spares t e _ h low)
+  low-verdict (verdicts.Refused r) h = same-buffers b
+
+  low-step : (ok : Bool) → Preserved b (pick ok (steady t e page b flags) (record { reply = reply.Refused refusal.NotUsable; target = t; buffers = b }) .buffers)
+  unfolding steady
+  low-step true = low-verdict (verdict t e) refl
+  low-step false = same-buffers b
+
+pub line-low : LineLow
+unfolding stepOf
+line-low t e page b flags low = low-step t e page b flags low (usable t (length page) (length (b .array)) (length (b .registers)) (length (b .counts)) (length flags))
+
+pub line-low-run : LineLowRun
+unfolding after lowThrough
+line-low-run page flags [] s h = same-buffers (s .buffers)
+line-low-run page flags (e ∷ es) s h =
+    let p = both (not (s .target .high)) _ h in
+    let one = line-low (s .target) e page (s .buffers) flags (not-true (s .target .high) (p .0)) in
+    let rest = line-low-run page flags es (left (stepAt page flags s e)) (p .1) in
+    record { array = rest .array ∙ one .array; counts = rest .counts ∙ one .counts }
+
+-- Runs from an accepted power-on.
+
+powered-sound : (page : List ℕ) (device : ℕ) → fieldsInLimits page ≡ true → recordSound (poweredOf page device) ≡ true
+unfolding poweredOf
+powered-sound page device h =
+    let fine = limited page h in
+    let m = limits (geometryOf page) fine in
+    let g = geometryOf page in
+    all-sound _ refl fine (m .luns-min) (rw (or-true (ltb 0 (g .luns)), or-true (ltb 1 (g .luns)), or-true (ltb 2 (g .luns)), or-true (ltb 3 (g .luns)))) refl refl
+
+module _ (page : List ℕ) (device : ℕ) (array registers counts flags : List ℕ) (on : powerAnswer page (length array) (length registers) counts flags ≡ power.Accepted) where
+  pub powered-fit : Fit (poweredUp page device array registers counts .target) page (poweredUp page device array registers counts .buffers) flags
+  unfolding usable wrongLength bufferBad poweredOf
+  powered-fit =
+      let p = all-power-passed page (length array) (length registers) counts flags on in
+      let long : eqb (length page) 256 ≡ true = not-false _ (p .right-length) in
+      let fits = not-false (sized (geometryOf page) (length array) (length registers) (length counts) (length flags)) (p .buffers) in
+      and-true (recordSound (poweredOf page device)) _ (powered-sound page device (accepted-limited page (length array) (length registers) counts flags on))
+      (and-true (eqb (length page) 256) _ long (rw (length-replicate) fits))
+
+  pub run-fit : (es : List Event) (s : State) → Fit (s .target) page (s .buffers) flags → Fit (after page flags es s .target) page (after page flags es s .buffers) flags
+  unfolding after
+  run-fit [] s h = h
+  run-fit (e ∷ es) s h = run-fit es (left (stepAt page flags s e)) (step-usable (s .target) e page (s .buffers) flags h)
+
+pub reset-verdict : (t : Target) → verdict t reset ≡ verdicts.Accepted
+unfolding orElse beforeReset unknown classOf offered misplaced fits othersBusy lineLow
+reset-verdict t = command-verdict t 0xff
+
+reset-steady : (s : State) (page flags : List ℕ) → (steady (s .target) reset page (s .buffers) flags .reply ≡ reply.Accepted) × (steady (s .target) reset page (s .buffers) flags .target .luns ≡ ready ∷ ready ∷ ready ∷ ready ∷ [])
+unfolding steady byVerdict accepted acceptedBy replyOf targetAfter lunsAfter
+reset-steady s page flags = rw (reset-verdict (s .target)) (refl, refl)
+
+pub reset-readies : ResetReadies
+reset-readies page device array registers counts flags on es s at =
+    let fit = subst (λ (x : State). Fit (x .target) page (x .buffers) flags) (sym at) (run-fit page device array registers counts flags on es _ (powered-fit page device array registers counts flags on)) in
+    rw (step-steady (s .target) reset page (s .buffers) flags fit) (reset-steady s page flags)
+
+pub never-unusable : NeverUnusable
+never-unusable page device array registers counts flags on es e s at h =
+    let fit = subst (λ (x : State). Fit (x .target) page (x .buffers) flags) (sym at) (run-fit page device array registers counts flags on es _ (powered-fit page device array registers counts flags on)) in
+    let told = sym (ap (λ (o : Outcome). o .reply) (step-steady (s .target) e page (s .buffers) flags fit)) ∙ h in
+    never-13 (s .target) e (refused-by (s .target) e page (s .buffers) flags (verdict (s .target) e) refusal.NotUsable (steady-reply (s .target) e page (s .buffers) flags ∙ told) .0)

@@ -1,0 +1,70 @@
+-- Work that stays within the buffers keeps their lengths.
+-- Assumes nothing.
+use mathlib.Core.Path.{_≡_, refl, sym, _∙_}
+use mathlib.Core.Bool.{Bool, true}
+use mathlib.Core.List.{List}
+use Prim.Native.Nat.{ℕ, _+_, _*_, _≤_, _<_}
+use native.Mathlib.Omega.{arith}
+use lib.ListN.{length, getD, set, replicate, length-set, length-replicate}
+use Rattle.slices.specs.Cells.{splice, part, andBytes}
+use Rattle.slices.proofs.Splice.{length-splice, length-part, piece}
+use Rattle.slices.proofs.Anded.{length-and}
+use Rattle.target.specs.Address.{lunOf}
+use Rattle.target.specs.declared.Column.{Column}
+use Rattle.target.specs.declared.Row.{Row}
+use Rattle.target.specs.declared.Geometry.{Geometry}
+use Rattle.target.specs.declared.Work.{Work}
+use Rattle.target.specs.declared.Work.the-variants as work
+use Rattle.step.specs.Buffers.{blockIndex, pageIndex, registersAfter, arrayAfter, countsAfter}
+use Rattle.step.specs.Step.{Buffers, worked, Sizes, Ready}
+use Rattle.step.proofs.Places.{row-lun, block-pages-end, block-bytes-end, page-bytes-end, register-end}
+
+-- the length of a part, by its name
+pub part-length : (xs : List ℕ) (at n : ℕ) → at + n ≤ length xs → length (part xs at n) ≡ n
+unfolding part
+part-length xs at n h = length-part xs at n h
+
+module _ (g : Geometry) (array registers counts : List ℕ) (sizes : Sizes g array registers counts) where
+  pub array-length : (w : Work) → Ready g w counts → length (arrayAfter g w array registers) ≡ length array
+  unfolding arrayAfter Ready
+  array-length work.Nothing ok = refl
+  array-length work.ClearAll ok = refl
+  array-length (work.ClearOne l) ok = refl
+  array-length (work.Load r) ok = refl
+  array-length (work.Put l c v) ok = refl
+  array-length (work.Program r) ok =
+      let at = pageIndex g r * g .page in
+      let fits : at + g .page ≤ length array = omega (arith, page-bytes-end g r (ok .0), sizes .array-size) in
+      length-splice array at (g .page) _ fits (length-and (part array at (g .page)) (part registers (lunOf g r * g .page) (g .page)) ∙ part-length array at (g .page) fits)
+  array-length (work.Erase r) ok =
+      let fits : blockIndex g r * g .pages * g .page + g .pages * g .page ≤ length array = omega (arith, block-bytes-end g r ok, sizes .array-size) in
+      length-splice array _ (g .pages * g .page) _ fits (length-replicate _ _)
+
+  pub registers-length : (w : Work) → Ready g w counts → length (registersAfter g w array registers) ≡ length registers
+  unfolding registersAfter Ready
+  registers-length work.Nothing ok = refl
+  registers-length work.ClearAll ok = length-replicate _ _
+  registers-length (work.ClearOne l) ok =
+      let fits : l * g .page + g .page ≤ length registers = omega (arith, piece (g .page) ok, sizes .registers-size) in
+      length-splice registers _ (g .page) _ fits (length-replicate _ _)
+  registers-length (work.Load r) ok =
+      let fits : lunOf g r * g .page + g .page ≤ length registers = omega (arith, register-end g r ok, sizes .registers-size) in
+      let from : pageIndex g r * g .page + g .page ≤ length array = omega (arith, page-bytes-end g r ok, sizes .array-size) in
+      length-splice registers _ (g .page) _ fits (part-length array _ (g .page) from)
+  registers-length (work.Put l c v) ok =
+      let fits : l * g .page + g .page ≤ length registers = omega (arith, piece (g .page) (ok .0), sizes .registers-size) in
+      length-splice registers _ (g .page) _ fits (length-set (part registers (l * g .page) (g .page)) (c .0) v ∙ part-length registers _ (g .page) fits)
+  registers-length (work.Program r) ok = refl
+  registers-length (work.Erase r) ok = refl
+
+  pub counts-length : (w : Work) → Ready g w counts → length (countsAfter g w counts) ≡ length counts
+  unfolding countsAfter Ready
+  counts-length work.Nothing ok = refl
+  counts-length work.ClearAll ok = refl
+  counts-length (work.ClearOne l) ok = refl
+  counts-length (work.Load r) ok = refl
+  counts-length (work.Put l c v) ok = refl
+  counts-length (work.Program r) ok = length-set counts _ _
+  counts-length (work.Erase r) ok =
+      let fits : blockIndex g r * g .pages + g .pages ≤ length counts = omega (arith, block-pages-end g r ok, sizes .counts-size) in
+      length-splice counts _ (g .pages) _ fits (length-replicate _ _)

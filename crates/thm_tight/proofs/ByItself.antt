@@ -1,0 +1,160 @@
+-- A powered record each of whose numbers is given by some run passes rule 13, as specs/Tight.antt states it.
+-- Assumes nothing.
+use mathlib.Core.Path.{_≡_, refl, sym, ap, _∙_, subst}
+use mathlib.Core.Bool.{Bool, true, false, _&&_, _||_, not}
+use mathlib.Core.List.{List, [], _∷_}
+use Prim.Native.Nat.{ℕ, _<_}
+use lib.ListN.{length}
+use lib.Dec.{eqb, ltb, leb, lit<}
+use Rattle.target.specs.Pick.{pick}
+use Rattle.target.specs.Address.{lunExists, blockExists, rowExists}
+use Rattle.target.specs.Commands.{takesRow}
+use Rattle.target.specs.Place.{works, failed}
+use Rattle.target.specs.Sizes.{inLimits}
+use Rattle.target.specs.declared.Column.{Column}
+use Rattle.target.specs.declared.Row.{Row}
+use Rattle.target.specs.declared.Lun.{Lun}
+use Rattle.target.specs.declared.Event.{Event}
+use Rattle.target.specs.declared.Geometry.{Geometry}
+use Rattle.target.specs.declared.Target.{Target}
+use Rattle.target.specs.declared.First.{First}
+use Rattle.target.specs.declared.First.the-variants.{Read, Jump, Fetch, Erase, Status, Look, Program, Identify, Parameters, GetFeature, SetFeature}
+use Rattle.target.specs.declared.Sequence.{Sequence}
+use Rattle.target.specs.declared.Sequence.the-variants.{Idle, Columns, Rows, Single, Due, Filling, Moving, Setting}
+use Rattle.target.specs.declared.Output.{Output}
+use Rattle.target.specs.declared.Output.the-variants as output
+use Rattle.target.specs.declared.Refusal.the-variants.{NotUsable}
+use Rattle.target.specs.declared.Reply.the-variants.{Refused}
+use Rattle.target.specs.declared.Verdict.{Verdict}
+use Rattle.target.specs.declared.Verdict.the-variants as verdicts
+use Rattle.target.proofs.Both.{both, both3}
+use Rattle.power.specs.Power.{poweredOf}
+use Rattle.rules.specs.Rules.{verdict}
+use Rattle.effects.specs.After.{targetAfter, targetRefused}
+use Rattle.step.specs.Usable.{columnHeld, dueSound, sequenceSound, outputSound, markSound, usable}
+use Rattle.step.specs.Step.{Buffers, acceptedBy, accepted, byVerdict, steady, stepOf}
+use Rattle.step.proofs.Sound.{Sound, sound, passes}
+use Rattle.thm_kept.proofs.Choice.{and-true}
+use Rattle.thm_kept.proofs.Kept.{all-sound}
+use Rattle.thm_demands.specs.Runs.{State, stepAt, left, after, poweredUp}
+use Rattle.thm_demands.proofs.Promised.{never-unusable}
+use Rattle.thm_tight.specs.Tight.{Reached, Stands, Shows, SequenceGiven, OutputGiven, ByItself}
+use Rattle.thm_tight.proofs.Marks.{one-mark}
+use Rattle.thm_tight.proofs.Ways.{usable-told}
+
+-- No event changes the geometry.
+
+module _ (t : Target) (e : Event) (page : List ℕ) (b : Buffers) (flags : List ℕ) where
+  by-verdict : (v : Verdict) → byVerdict v t e page b flags .target .geometry ≡ t .geometry
+  unfolding byVerdict accepted acceptedBy targetAfter targetRefused
+  by-verdict verdicts.Accepted = refl
+  by-verdict (verdicts.Refused r) = refl
+
+  by-usable : (ok : Bool) → pick ok (steady t e page b flags) (record { reply = Refused NotUsable; target = t; buffers = b }) .target .geometry ≡ t .geometry
+  unfolding steady
+  by-usable true = by-verdict (verdict t e)
+  by-usable false = refl
+
+  same-geometry : stepOf t e page b flags .target .geometry ≡ t .geometry
+  unfolding stepOf
+  same-geometry = by-usable (usable t (length page) (length (b .array)) (length (b .registers)) (length (b .counts)) (length flags))
+
+run-geometry : (page flags : List ℕ) (es : List Event) (s : State) → after page flags es s .target .geometry ≡ s .target .geometry
+unfolding after
+run-geometry page flags [] s = refl
+run-geometry page flags (e ∷ es) s = run-geometry page flags es (left (stepAt page flags s e)) ∙ same-geometry (s .target) e page (s .buffers) flags
+
+-- Where a run stands, rule 13 lets pass.
+
+module _ {g : Geometry} {P : Target → Type 0} (w : Reached g P) where
+  abbrev run : State
+  run = after (w .page) (w .flags) (w .events) (poweredUp (w .page) (w .device) (w .array) (w .registers) (w .counts))
+
+  run-sound : Sound (run .target)
+  run-sound =
+      let e : Event = record { kind = 0; value = 0 } in
+      let fit = usable-told (run .target) e (w .page) (run .buffers) (w .flags) (never-unusable (w .page) (w .device) (w .array) (w .registers) (w .counts) (w .flags) (w .on) (w .events) e run refl) in
+      sound (run .target) (passes (run .target) (w .page) (run .buffers .array) (run .buffers .registers) (run .buffers .counts) (w .flags) fit .record-sound)
+
+  run-sized : run .target .geometry ≡ g
+  unfolding poweredOf
+  run-sized = run-geometry (w .page) (w .flags) (w .events) (poweredUp (w .page) (w .device) (w .array) (w .registers) (w .counts)) ∙ w .sizes
+
+  run-mark : (l : ℕ) → l < 4 → markSound g (run .target .luns) l ≡ true
+  run-mark l h = subst (λ (x : Geometry). markSound x (run .target .luns) l ≡ true) run-sized (one-mark (run .target .geometry) (run .target .luns) (run-sound .marks) l h)
+
+sequence-held : {g : Geometry} {s : Sequence} → Stands g s → sequenceSound g s ≡ true
+sequence-held {g} {s} w = ap (λ (x : Geometry). sequenceSound x s) (sym (run-sized w)) ∙ ap (sequenceSound (run w .target .geometry)) (sym (w .holds)) ∙ run-sound w .sequence
+
+output-held : {g : Geometry} {o : Output} → Shows g o → outputSound g o ≡ true
+output-held {g} {o} w = ap (λ (x : Geometry). outputSound x o) (sym (run-sized w)) ∙ ap (outputSound (run w .target .geometry)) (sym (w .holds)) ∙ run-sound w .output
+
+-- Tests that two runs pass, each for one number.
+
+mix : (a b c d : Bool) → (a && b) ≡ true → (c && d) ≡ true → (a && d) ≡ true
+mix a b c d h k = and-true a d (both a b h .0) (both c d k .1)
+
+due-mix : (g : Geometry) (f : First) (c d : Column) (r q : Row) → dueSound g f c q ≡ true → dueSound g f d r ≡ true → dueSound g f c r ≡ true
+due-mix g Read c d r q h k = mix (ltb (c .0) (g .page)) (rowExists g q) (ltb (d .0) (g .page)) (rowExists g r) h k
+due-mix g Jump c d r q h k = mix (ltb (c .0) (g .page)) (eqb (q .0) 0) (ltb (d .0) (g .page)) (eqb (r .0) 0) h k
+due-mix g Fetch c d r q h k = mix (ltb (c .0) (g .page)) (lunExists g q) (ltb (d .0) (g .page)) (lunExists g r) h k
+due-mix g Erase c d r q h k = mix (eqb (c .0) 0) (blockExists g q) (eqb (d .0) 0) (blockExists g r) h k
+due-mix g Status c d r q h k = h
+due-mix g Look c d r q h k = h
+due-mix g Program c d r q h k = h
+due-mix g Identify c d r q h k = h
+due-mix g Parameters c d r q h k = h
+due-mix g GetFeature c d r q h k = h
+due-mix g SetFeature c d r q h k = h
+
+mark-mix : (there a b c d : Bool) → (there || not a && not c) ≡ true → (there || not d && not b) ≡ true → (there || not a && not b) ≡ true
+mark-mix true a b c d h k = refl
+mark-mix false a b c d h k = mix (not a) (not c) (not d) (not b) h k
+
+sequence-sound : (g : Geometry) (s : Sequence) → SequenceGiven g s → sequenceSound g s ≡ true
+sequence-sound g Idle w = refl
+sequence-sound g (Columns f got low) w = sequence-held (w .0 .1)
+sequence-sound g (Rows f c got low mid) w =
+    let n = w .0 .0 in
+    let p = both3 (takesRow f) (ltb n 3) (columnHeld g f c) (sequence-held (w .0 .3)) in
+    let q = both3 (takesRow f) (ltb got 3) (columnHeld g f (w .1 .0)) (sequence-held (w .1 .3)) in
+    and-true (takesRow f && ltb got 3) (columnHeld g f c) (and-true (takesRow f) (ltb got 3) (q .0) (q .1)) (p .2)
+sequence-sound g (Single f) w = sequence-held w
+sequence-sound g (Due f c r) w = due-mix g f c (w .1 .0) r (w .0 .0) (sequence-held (w .0 .1)) (sequence-held (w .1 .1))
+sequence-sound g (Filling r at) w =
+    mix (leb (at .0) (g .page)) (rowExists g (w .1 .0)) (leb (w .0 .0 .0) (g .page)) (rowExists g r) (sequence-held (w .1 .1)) (sequence-held (w .0 .1))
+sequence-sound g (Moving r got low) w =
+    mix (ltb got 2) (rowExists g (w .1 .0)) (ltb (w .0 .0) 2) (rowExists g r) (sequence-held (w .1 .2)) (sequence-held (w .0 .2))
+sequence-sound g (Setting got value) w =
+    mix (ltb got 4) (eqb (w .0 .0) 0 || eqb (w .0 .0) 0x40) (ltb (w .1 .0) 4) (eqb value 0 || eqb value 0x40) (sequence-held (w .0 .1)) (sequence-held (w .1 .1))
+
+output-sound : (g : Geometry) (o : Output) → OutputGiven g o → outputSound g o ≡ true
+output-sound g output.Nothing w = refl
+output-sound g (output.Register l c) w =
+    mix (ltb l (g .luns)) (leb (w .0 .0 .0) (g .page)) (ltb (w .1 .0) (g .luns)) (leb (c .0) (g .page)) (output-held (w .0 .1)) (output-held (w .1 .1))
+output-sound g (output.Parameters at) w = output-held w
+output-sound g (output.Status l) w = output-held w
+output-sound g (output.Ids at) w = output-held w
+output-sound g (output.Signature at) w = output-held w
+output-sound g (output.Feature at) w = output-held w
+
+mark-sound : (g : Geometry) (luns : List Lun) (l : ℕ) → l < 4 → Reached g (λ u. works (u .luns) l ≡ works luns l) → Reached g (λ u. failed (u .luns) l ≡ failed luns l) → markSound g luns l ≡ true
+mark-sound g luns l h w f =
+    mark-mix (ltb l (g .luns)) (works luns l) (failed luns l) (failed (run w .target .luns) l) (works (run f .target .luns) l)
+    (subst (λ (x : Bool). (ltb l (g .luns) || not x && not (failed (run w .target .luns) l)) ≡ true) (w .holds) (run-mark w l h))
+    (subst (λ (x : Bool). (ltb l (g .luns) || not (works (run f .target .luns) l) && not x) ≡ true) (f .holds) (run-mark f l h))
+
+pub by-itself : ByItself
+by-itself t on w =
+    let g = t .geometry in
+    let mark : (l : ℕ) → l < 4 → markSound g (t .luns) l ≡ true = λ l h. mark-sound g (t .luns) l h (w .working l h) (w .fail l h) in
+    all-sound t on
+    (subst (λ (x : Geometry). inLimits x ≡ true) (run-sized (w .geometry)) (run-sound (w .geometry) .limited))
+    (subst (λ (n : ℕ). n < g .luns) (w .selected .holds) (subst (λ (x : Geometry). run (w .selected) .target .selected < x .luns) (run-sized (w .selected)) (run-sound (w .selected) .selected)))
+    (and-true (markSound g (t .luns) 0 && markSound g (t .luns) 1 && markSound g (t .luns) 2) (markSound g (t .luns) 3)
+    (and-true (markSound g (t .luns) 0 && markSound g (t .luns) 1) (markSound g (t .luns) 2)
+    (and-true (markSound g (t .luns) 0) (markSound g (t .luns) 1) (mark 0 (lit< tt)) (mark 1 (lit< tt)))
+    (mark 2 (lit< tt)))
+    (mark 3 (lit< tt)))
+    (sequence-sound g (t .decoder .sequence) (w .sequence))
+    (output-sound g (t .decoder .output) (w .output))

@@ -1,0 +1,299 @@
+-- Of each geometry within the limits there is a part: its parameter page and its buffers are ones that power-on accepts.
+-- Assumes nothing.
+use mathlib.Core.Path.{_≡_, refl, sym}
+use mathlib.Core.Bool.{Bool, true, false, _&&_}
+use mathlib.Core.List.{List, [], _∷_, _++_}
+use Prim.Native.Nat.{ℕ, zero, suc, _+_, _-_, _*_, _/_, _%_, _≤_, _<_}
+use native.Mathlib.Omega.{arith}
+use lib.ListN.{length, getD, replicate, length-replicate, getD-replicate}
+use lib.Dec.{leb}
+use borrow.Author.Tests.{le-leb, eq-eqb}
+use Rattle.slices.specs.Cells.{allAtMost}
+use Rattle.page.specs.Crc.{crcOf}
+use Rattle.page.specs.Page.{field, bitOf, signed, features, optionalCommands, makerId, dataBytes, spareBytes, pagesABlock, blocksALun, lunCount, addressCycles, programsAPage, storedCrc, crcGood, dataInLimits, spareInLimits, pagesInLimits, blocksInLimits, lunsInLimits, lunsAsFeatured, narrowBus, cyclesAsHouse, programsInLimits, fieldsInLimits}
+use Rattle.target.specs.Pick.{pick}
+use Rattle.target.specs.Sizes.{inLimits, sized}
+use Rattle.target.specs.declared.Geometry.{Geometry}
+use Rattle.target.specs.declared.Options.{Options}
+use Rattle.target.proofs.Limits.{Limits, limits}
+use Rattle.power.specs.Power.{geometryOf, optionsOf, wrongLength, unsigned, crcBad, fieldBad, bufferBad, contentBad, powerAnswer}
+use Rattle.power.specs.declared.PowerAnswer.the-variants.{Accepted}
+use Rattle.power.proofs.Answers.{later}
+use Rattle.thm_kept.proofs.Choice.{and-true, or-true}
+use Rattle.thm_tight.proofs.Crc.{crc-small}
+
+-- what a part is made of; `flag` is that of every block
+pub record Part : Type 0 where
+  pub geometry : Geometry
+  pub options : Options
+  pub maker : ℕ
+  pub device : ℕ
+  pub flag : ℕ
+
+pub record Fine (k : Part) : Type 0 where
+  pub limited : inLimits (k .geometry) ≡ true
+  pub maker-byte : k .maker ≤ 255
+  pub device-byte : k .device ≤ 255
+  pub flag-bit : k .flag ≤ 1
+
+-- data bytes as many as may be, the rest spare
+abbrev spareOf : ℕ → ℕ
+spareOf page = page - 16384
+
+abbrev dataOf : ℕ → ℕ
+dataOf page = page - spareOf page
+
+abbrev commandBits : Options → ℕ
+commandBits o = pick (o .look) 8 0 + pick (o .fetch) 64 0 + pick (o .features) 4 0
+
+-- bytes 80 on
+abbrev sizesThen : Geometry → List ℕ → List ℕ
+sizesThen g rest =
+    dataOf (g .page) % 256 ∷ dataOf (g .page) / 256 ∷ 0 ∷ 0 ∷ spareOf (g .page) % 256 ∷ spareOf (g .page) / 256
+    ∷ (replicate 6 0 ++ (g .pages % 256 ∷ g .pages / 256 ∷ 0 ∷ 0 ∷ g .blocks % 256 ∷ g .blocks / 256 ∷ 0 ∷ 0 ∷ g .luns ∷ 0x23
+    ∷ (replicate 8 0 ++ (g .programs ∷ (replicate 143 0 ++ rest)))))
+
+-- the 254 bytes, and what follows them
+abbrev bytesThen : Part → List ℕ → List ℕ
+bytesThen k rest =
+    0x4f ∷ 0x4e ∷ 0x46 ∷ 0x49 ∷ 0 ∷ 0 ∷ 2 ∷ pick (k .options .clear) 1 0 ∷ commandBits (k .options) ∷ 0
+    ∷ (replicate 54 0 ++ (k .maker ∷ (replicate 15 0 ++ sizesThen (k .geometry) rest)))
+
+crcIn : Part → ℕ
+crcIn k = crcOf (bytesThen k [])
+
+-- what is lent at power-on: the page, FFh all over, counts of 0, flags alike
+pub pageOf : Part → List ℕ
+pageOf k = bytesThen k (crcIn k % 256 ∷ crcIn k / 256 ∷ [])
+
+abbrev blocksIn : Part → ℕ
+blocksIn k = k .geometry .luns * k .geometry .blocks
+
+pub arrayOf : Part → List ℕ
+arrayOf k = replicate (blocksIn k * k .geometry .pages * k .geometry .page) 0xff
+
+pub registersOf : Part → List ℕ
+registersOf k = replicate (k .geometry .luns * k .geometry .page) 0xff
+
+pub countsOf : Part → List ℕ
+countsOf k = replicate (blocksIn k * k .geometry .pages) 0
+
+pub flagsOf : Part → List ℕ
+flagsOf k = replicate (blocksIn k) (k .flag)
+
+-- The fields.
+
+two-bytes : (n : ℕ) → n % 256 + 256 * (n / 256 + 256 * 0) ≡ n
+two-bytes n = omega arith
+
+four-bytes : (n : ℕ) → n % 256 + 256 * (n / 256 + 256 * (0 + 256 * (0 + 256 * 0))) ≡ n
+four-bytes n = omega arith
+
+one-byte : (n : ℕ) → n + 256 * 0 ≡ n
+one-byte n = omega arith
+
+module _ (k : Part) where
+  data-is : dataBytes (pageOf k) ≡ dataOf (k .geometry .page)
+  unfolding dataBytes field pageOf
+  data-is = four-bytes (dataOf (k .geometry .page))
+
+  spare-is : spareBytes (pageOf k) ≡ spareOf (k .geometry .page)
+  unfolding spareBytes field pageOf
+  spare-is = two-bytes (spareOf (k .geometry .page))
+
+  pages-is : pagesABlock (pageOf k) ≡ k .geometry .pages
+  unfolding pagesABlock field pageOf
+  pages-is = four-bytes (k .geometry .pages)
+
+  blocks-is : blocksALun (pageOf k) ≡ k .geometry .blocks
+  unfolding blocksALun field pageOf
+  blocks-is = four-bytes (k .geometry .blocks)
+
+  luns-is : lunCount (pageOf k) ≡ k .geometry .luns
+  unfolding lunCount field pageOf
+  luns-is = one-byte (k .geometry .luns)
+
+  programs-is : programsAPage (pageOf k) ≡ k .geometry .programs
+  unfolding programsAPage field pageOf
+  programs-is = one-byte (k .geometry .programs)
+
+  pub maker-is : makerId (pageOf k) ≡ k .maker
+  unfolding makerId field pageOf
+  maker-is = one-byte (k .maker)
+
+  pub geometry-is : geometryOf (pageOf k) ≡ k .geometry
+  unfolding geometryOf
+  geometry-is =
+      let whole : dataBytes (pageOf k) + spareBytes (pageOf k) ≡ k .geometry .page = omega (arith, data-is, spare-is) in
+      λ i. record { page = whole i; pages = pages-is i; blocks = blocks-is i; luns = luns-is i; programs = programs-is i }
+
+-- each option is its bit
+commands-read : (look fetch feature : Bool) → (bitOf (pick look 8 0 + pick fetch 64 0 + pick feature 4 0 + 256 * (0 + 256 * 0)) 3 ≡ look) × (bitOf (pick look 8 0 + pick fetch 64 0 + pick feature 4 0 + 256 * (0 + 256 * 0)) 6 ≡ fetch) × (bitOf (pick look 8 0 + pick fetch 64 0 + pick feature 4 0 + 256 * (0 + 256 * 0)) 2 ≡ feature)
+unfolding bitOf
+commands-read true true true = (refl, refl, refl)
+commands-read true true false = (refl, refl, refl)
+commands-read true false true = (refl, refl, refl)
+commands-read true false false = (refl, refl, refl)
+commands-read false true true = (refl, refl, refl)
+commands-read false true false = (refl, refl, refl)
+commands-read false false true = (refl, refl, refl)
+commands-read false false false = (refl, refl, refl)
+
+features-read : (clear : Bool) → (bitOf (2 + 256 * (pick clear 1 0 + 256 * 0)) 0 ≡ false) × (bitOf (2 + 256 * (pick clear 1 0 + 256 * 0)) 1 ≡ true) × (bitOf (2 + 256 * (pick clear 1 0 + 256 * 0)) 8 ≡ clear)
+unfolding bitOf
+features-read true = (refl, refl, refl)
+features-read false = (refl, refl, refl)
+
+module _ (k : Part) where
+  pub options-is : optionsOf (pageOf k) ≡ k .options
+  unfolding optionsOf optionalCommands features field pageOf
+  options-is =
+      let o = k .options in
+      let p = commands-read (o .look) (o .fetch) (o .features) in
+      λ i. record { look = p .0 i; fetch = p .1 i; features = p .2 i; clear = features-read (o .clear) .2 i }
+
+  bus-is : bitOf (features (pageOf k)) 0 ≡ false
+  unfolding features field pageOf
+  bus-is = features-read (k .options .clear) .0
+
+  many-is : bitOf (features (pageOf k)) 1 ≡ true
+  unfolding features field pageOf
+  many-is = features-read (k .options .clear) .1
+
+  length-is : length (pageOf k) ≡ 256
+  unfolding pageOf
+  length-is = refl
+
+  signed-is : signed (pageOf k) ≡ true
+  unfolding signed pageOf
+  signed-is = refl
+
+  crc-is : crcGood (pageOf k) ≡ true
+  unfolding crcGood storedCrc field pageOf crcIn
+  crc-is = eq-eqb (crcOf (bytesThen k [])) _ (sym (two-bytes (crcOf (bytesThen k []))))
+
+  cycles-is : addressCycles (pageOf k) ≡ 0x23
+  unfolding addressCycles field pageOf
+  cycles-is = refl
+
+all9 : (a b c d e f g h i : Bool) → a ≡ true → b ≡ true → c ≡ true → d ≡ true → e ≡ true → f ≡ true → g ≡ true → h ≡ true → i ≡ true → (a && b && c && d && e && f && g && h && i) ≡ true
+all9 a b c d e f g h i p q r s t u v w x = rw (p, q, r, s, t, u, v, w, x)
+
+inside : (low x high : ℕ) → low ≤ x → x ≤ high → (leb low x && leb x high) ≡ true
+inside low x high l h = rw (le-leb low x l, le-leb x high h)
+
+all-most : (most n v : ℕ) → v ≤ most → allAtMost most (replicate n v) ≡ true
+unfolding allAtMost
+all-most most zero v h = refl
+all-most most (suc n) v h = rw (le-leb v most h) (all-most most n v h)
+
+module _ (k : Part) (m : Limits (k .geometry)) where
+  fields-fine : fieldsInLimits (pageOf k) ≡ true
+  unfolding fieldsInLimits dataInLimits spareInLimits pagesInLimits blocksInLimits lunsInLimits lunsAsFeatured narrowBus cyclesAsHouse programsInLimits
+  fields-fine =
+      let p = pageOf k in
+      all9 (dataInLimits p) (spareInLimits p) (pagesInLimits p) (blocksInLimits p) (lunsInLimits p) (lunsAsFeatured p) (narrowBus p) (cyclesAsHouse p) (programsInLimits p)
+      (rw (data-is k) (inside 16 (dataOf (k .geometry .page)) 16384 (omega arith) (omega arith)))
+      (rw (spare-is k) (le-leb (spareOf (k .geometry .page)) 2048 (omega arith)))
+      (rw (pages-is k) (inside 1 (k .geometry .pages) 256 (m .pages-min) (m .pages-max)))
+      (rw (blocks-is k) (inside 1 (k .geometry .blocks) 4096 (m .blocks-min) (m .blocks-max)))
+      (rw (luns-is k) (inside 1 (k .geometry .luns) 4 (m .luns-min) (m .luns-max)))
+      (rw (many-is k) (or-true (leb (lunCount (pageOf k)) 1)))
+      (rw (bus-is k))
+      (rw (cycles-is k))
+      (rw (programs-is k) (inside 1 (k .geometry .programs) 8 (m .programs-min) (m .programs-max)))
+
+all4 : (a b c d : Bool) → a ≡ true → b ≡ true → c ≡ true → d ≡ true → (a && b && c && d) ≡ true
+all4 a b c d p q r s = rw (p, q, r, s)
+
+module _ (k : Part) where
+  array-length : length (arrayOf k) ≡ blocksIn k * k .geometry .pages * k .geometry .page
+  unfolding arrayOf
+  array-length = length-replicate _ 0xff
+
+  registers-length : length (registersOf k) ≡ k .geometry .luns * k .geometry .page
+  unfolding registersOf
+  registers-length = length-replicate _ 0xff
+
+  counts-length : length (countsOf k) ≡ blocksIn k * k .geometry .pages
+  unfolding countsOf
+  counts-length = length-replicate _ 0
+
+  flags-length : length (flagsOf k) ≡ blocksIn k
+  unfolding flagsOf
+  flags-length = length-replicate _ (k .flag)
+
+  sizes-fine : sized (k .geometry) (length (arrayOf k)) (length (registersOf k)) (length (countsOf k)) (length (flagsOf k)) ≡ true
+  unfolding sized
+  sizes-fine = all4 _ _ _ _ (eq-eqb _ _ array-length) (eq-eqb _ _ registers-length) (eq-eqb _ _ counts-length) (eq-eqb _ _ flags-length)
+
+  -- the flag of a block that exists
+  pub flag-at : (i : ℕ) → i < blocksIn k → getD (flagsOf k) i 0 ≡ k .flag
+  unfolding flagsOf
+  flag-at i h = getD-replicate (blocksIn k) i (k .flag) 0 h
+
+module _ (k : Part) (f : Fine k) where
+  counts-fine : allAtMost (programsAPage (pageOf k)) (countsOf k) ≡ true
+  unfolding countsOf
+  counts-fine = all-most _ (blocksIn k * k .geometry .pages) 0 (omega arith)
+
+  flags-fine : allAtMost 1 (flagsOf k) ≡ true
+  unfolding flagsOf
+  flags-fine = all-most 1 (blocksIn k) (k .flag) (f .flag-bit)
+
+  -- power-on accepts it
+  pub powers-on : powerAnswer (pageOf k) (length (arrayOf k)) (length (registersOf k)) (countsOf k) (flagsOf k) ≡ Accepted
+  unfolding powerAnswer wrongLength unsigned crcBad fieldBad bufferBad contentBad
+  powers-on =
+      sym (later _ _ _ (rw (length-is k))
+      (later _ _ _ (rw (signed-is k))
+      (later _ _ _ (rw (crc-is k))
+      (later _ _ _ (rw (fields-fine k (limits (k .geometry) (f .limited))))
+      (later _ _ _ (rw (geometry-is k, sizes-fine k))
+      (later _ _ _ (rw (counts-fine, flags-fine)) refl))))))
+
+-- All that is lent is bytes.
+
+first-byte : (x : ℕ) (xs : List ℕ) → x ≤ 255 → allAtMost 255 xs ≡ true → allAtMost 255 (x ∷ xs) ≡ true
+unfolding allAtMost
+first-byte x xs h k = and-true (leb x 255) (allAtMost 255 xs) (le-leb x 255 h) k
+
+no-byte : allAtMost 255 [] ≡ true
+unfolding allAtMost
+no-byte = refl
+
+zeros : (n : ℕ) (xs : List ℕ) → allAtMost 255 xs ≡ true → allAtMost 255 (replicate n 0 ++ xs) ≡ true
+zeros zero xs h = h
+zeros (suc n) xs h = first-byte 0 (replicate n 0 ++ xs) (omega arith) (zeros n xs h)
+
+bit-most : (b : Bool) (n : ℕ) → pick b n 0 ≤ n
+bit-most true n = omega arith
+bit-most false n = omega arith
+
+sizes-bytes : (g : Geometry) (rest : List ℕ) → Limits g → allAtMost 255 rest ≡ true → allAtMost 255 (sizesThen g rest) ≡ true
+sizes-bytes g rest m h =
+    first-byte _ _ (omega arith) (first-byte _ _ (omega arith) (first-byte _ _ (omega arith) (first-byte _ _ (omega arith)
+    (first-byte _ _ (omega arith) (first-byte _ _ (omega arith) (zeros 6 _
+    (first-byte _ _ (omega arith) (first-byte _ _ (omega arith) (first-byte _ _ (omega arith) (first-byte _ _ (omega arith)
+    (first-byte _ _ (omega arith) (first-byte _ _ (omega arith) (first-byte _ _ (omega arith) (first-byte _ _ (omega arith)
+    (first-byte _ _ (omega arith) (first-byte _ _ (omega arith) (zeros 8 _ (first-byte _ _ (omega arith) (zeros 143 rest h)))))))))))))))))))
+
+module _ (k : Part) (f : Fine k) where
+  pub page-bytes : allAtMost 255 (pageOf k) ≡ true
+  unfolding pageOf crcIn
+  page-bytes =
+      let small = crc-small (bytesThen k []) in
+      first-byte _ _ (omega arith) (first-byte _ _ (omega arith) (first-byte _ _ (omega arith) (first-byte _ _ (omega arith)
+      (first-byte _ _ (omega arith) (first-byte _ _ (omega arith) (first-byte _ _ (omega arith)
+      (first-byte _ _ (omega (arith, bit-most (k .options .clear) 1)) (first-byte _ _ (omega (arith, bit-most (k .options .look) 8, bit-most (k .options .fetch) 64, bit-most (k .options .features) 4))
+      (first-byte _ _ (omega arith) (zeros 54 _ (first-byte _ _ (f .maker-byte) (zeros 15 _
+      (sizes-bytes (k .geometry) _ (limits (k .geometry) (f .limited))
+      (first-byte _ _ (omega arith) (first-byte _ [] (omega arith) (no-byte))))))))))))))))
+
+  pub array-bytes : allAtMost 255 (arrayOf k) ≡ true
+  unfolding arrayOf
+  array-bytes = all-most 255 (blocksIn k * k .geometry .pages * k .geometry .page) 0xff (omega arith)
+
+  pub registers-bytes : allAtMost 255 (registersOf k) ≡ true
+  unfolding registersOf
+  registers-bytes = all-most 255 (k .geometry .luns * k .geometry .page) 0xff (omega arith)

@@ -1,0 +1,105 @@
+-- Rule 13 is tight, as specs/Tight.antt states it.
+-- Assumes nothing.
+use mathlib.Core.Path.{_≡_, refl}
+use mathlib.Core.Bool.{Bool, true, false}
+use Prim.Native.Nat.{ℕ, _≤_, _<_}
+use native.Mathlib.Omega.{arith}
+use Rattle.target.specs.Pick.{orElse}
+use Rattle.target.specs.Events.{badRecord}
+use Rattle.target.specs.Sizes.{inLimits}
+use Rattle.target.specs.declared.Geometry.{Geometry}
+use Rattle.target.specs.declared.Options.{Options}
+use Rattle.target.specs.declared.Target.{Target}
+use Rattle.target.specs.declared.Sequence.the-variants.{Setting}
+use Rattle.target.specs.declared.Output.the-variants as output
+use Rattle.target.specs.declared.Verdict.the-variants.{Accepted}
+use Rattle.rules.specs.Rules.{lineHeld, verdict}
+use Rattle.rules.proofs.ByKind.{event, protect-verdict}
+use Rattle.effects.specs.After.{lunsAfter, clearAfter, highAfter, targetAfter}
+use Rattle.step.proofs.Sound.{sound}
+use Rattle.thm_tight.specs.Tight.{Reached, Tight}
+use Rattle.thm_tight.proofs.Part.{Part, Fine}
+use Rattle.thm_tight.proofs.Ways.{fresh, at-power, onward, reached}
+use Rattle.thm_tight.proofs.Cycles.{full, stand, every, still, in-accepted}
+use Rattle.thm_tight.proofs.Sequences.{setting-three, sequence-given}
+use Rattle.thm_tight.proofs.Outputs.{status, output-given}
+use Rattle.thm_tight.proofs.Marks.{working-given, fail-given}
+
+-- a part of the geometry, with these options and IDs
+abbrev made : Geometry → Options → ℕ → ℕ → Part
+made g o maker device = record { geometry = g; options = o; maker = maker; device = device; flag = 0 }
+
+made-fine : (g : Geometry) (o : Options) (maker device : ℕ) → inLimits g ≡ true → maker ≤ 255 → device ≤ 255 → Fine (made g o maker device)
+made-fine g o maker device h p q = record { limited = h; maker-byte = p; device-byte = q; flag-bit = omega arith }
+
+full-fine : (g : Geometry) (flag : ℕ) → inLimits g ≡ true → flag ≤ 1 → Fine (full g flag)
+full-fine g flag h k = record { limited = h; maker-byte = omega arith; device-byte = omega arith; flag-bit = k }
+
+-- The protect line, program-clear, the first FFh.
+
+lowers : (k : Part) → verdict (fresh k) (event 5 0) ≡ Accepted
+unfolding orElse badRecord lineHeld
+lowers k = protect-verdict (fresh k) 0
+
+lowered : (k : Part) (spoilt : Bool) → targetAfter (fresh k) (event 5 0) spoilt ≡ targetAfter (fresh k) (event 5 0) false
+unfolding targetAfter lunsAfter
+lowered k spoilt = refl
+
+is-low : (k : Part) → targetAfter (fresh k) (event 5 0) false .high ≡ false
+unfolding targetAfter highAfter
+is-low k = refl
+
+-- EFh's fourth byte
+abbrev set : Geometry → Target
+set g = stand g 0 (Setting 3 0x40) output.Nothing
+
+cleared : (g : Geometry) (spoilt : Bool) → targetAfter (set g) (event 2 0) spoilt ≡ targetAfter (set g) (event 2 0) false
+unfolding targetAfter lunsAfter
+cleared g spoilt = refl
+
+is-clear : (g : Geometry) → targetAfter (set g) (event 2 0) false .clear ≡ true
+unfolding targetAfter clearAfter
+is-clear g = refl
+
+module _ (g : Geometry) (fine : Fine (full g 0)) where
+  high-given : (b : Bool) → Reached g (λ t. t .high ≡ b)
+  high-given true = reached (λ (t : Target). t .high ≡ true) fine (at-power (full g 0)) refl
+  high-given false =
+      reached (λ (t : Target). t .high ≡ false) fine
+      (onward fine (at-power (full g 0)) (event 5 0) (omega arith) (omega arith) (lowers (full g 0)) (targetAfter (fresh (full g 0)) (event 5 0) false) (λ _. lowered (full g 0) _))
+      (is-low (full g 0))
+
+  clear-given : (b : Bool) → Reached g (λ t. t .clear ≡ b)
+  clear-given true =
+      reached (λ (t : Target). t .clear ≡ true) fine
+      (onward fine (setting-three g 0 fine 0x40 refl) (event 2 0) (omega arith) (omega arith) (in-accepted g 0 (Setting 3 0x40) output.Nothing 0 refl refl refl) (targetAfter (set g) (event 2 0) false) (λ _. cleared g _))
+      (is-clear g)
+  clear-given false = reached (λ (t : Target). t .clear ≡ false) fine (at-power (full g 0)) refl
+
+  seen-given : (b : Bool) → Reached g (λ t. t .seen ≡ b)
+  seen-given true = reached (λ (t : Target). t .seen ≡ true) fine (still g 0 fine) refl
+  seen-given false = reached (λ (t : Target). t .seen ≡ false) fine (at-power (full g 0)) refl
+
+  selected-given : (l : ℕ) → l < g .luns → Reached g (λ t. t .selected ≡ l)
+  selected-given l h = reached (λ (t : Target). t .selected ≡ l) fine (status g 0 fine l h) refl
+
+pub tight : Tight
+tight t h =
+    let s = sound t h in
+    let g = t .geometry in
+    let fine = full-fine g 0 (s .limited) (omega arith) in
+    let ruined = full-fine g 1 (s .limited) (omega arith) in
+    record {
+      geometry = reached (λ (u : Target). u .geometry ≡ g) fine (at-power (full g 0)) refl;
+      options = reached (λ (u : Target). u .options ≡ t .options) (made-fine g (t .options) 0 0 (s .limited) (omega arith) (omega arith)) (at-power (made g (t .options) 0 0)) refl;
+      maker = λ small. reached (λ (u : Target). u .ids .maker ≡ t .ids .maker) (made-fine g every (t .ids .maker) 0 (s .limited) small (omega arith)) (at-power (made g every (t .ids .maker) 0)) refl;
+      device = λ small. reached (λ (u : Target). u .ids .device ≡ t .ids .device) (made-fine g every 0 (t .ids .device) (s .limited) (omega arith) small) (at-power (made g every 0 (t .ids .device))) refl;
+      high = high-given g fine (t .high);
+      clear = clear-given g fine (t .clear);
+      seen = seen-given g fine (t .seen);
+      selected = selected-given g fine (t .selected) (s .selected);
+      working = λ l k. working-given g fine ruined l k (t .luns) (s .marks);
+      fail = λ l k. fail-given g fine ruined l k (t .luns) (s .marks);
+      sequence = sequence-given g 0 fine (t .decoder .sequence) (s .sequence);
+      output = output-given g 0 fine (t .decoder .output) (s .output);
+    }

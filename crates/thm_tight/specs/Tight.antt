@@ -1,0 +1,108 @@
+-- Rule 13's record part is what document 01 says of it ("Refusal numbers"): it refuses where the target is not powered "or a
+-- number in the record, taken by itself, is one that no run with that geometry gives it". Proved in proofs/.
+--     Tight       each number of a record that it lets pass is given by a run
+--     ByItself    and a record each of whose numbers is given by some run passes, however they stand together
+use mathlib.Core.Path.{_≡_}
+use mathlib.Core.Bool.{Bool, true, _&&_}
+use mathlib.Core.List.{List, [], _∷_}
+use Prim.Native.Nat.{ℕ, _<_, _≤_}
+use lib.ListN.{length}
+use lib.Dec.{leb}
+use Rattle.slices.specs.Cells.{allAtMost}
+use Rattle.target.specs.Place.{works, failed}
+use Rattle.target.specs.declared.Event.{Event}
+use Rattle.target.specs.declared.Geometry.{Geometry}
+use Rattle.target.specs.declared.Target.{Target}
+use Rattle.target.specs.declared.Column.{Column}
+use Rattle.target.specs.declared.Row.{Row}
+use Rattle.target.specs.declared.Sequence.{Sequence}
+use Rattle.target.specs.declared.Sequence.the-variants.{Idle, Columns, Rows, Single, Due, Filling, Moving, Setting}
+use Rattle.target.specs.declared.Output.{Output}
+use Rattle.target.specs.declared.Output.the-variants as output
+use Rattle.power.specs.Power.{geometryOf, powerAnswer}
+use Rattle.power.specs.declared.PowerAnswer.the-variants.{Accepted}
+use Rattle.step.specs.Usable.{recordSound}
+use Rattle.thm_demands.specs.Runs.{after, poweredUp}
+
+-- the kind and the value of each event are bytes
+unfoldable pub byteEvents : List Event → Bool
+byteEvents [] = true
+byteEvents (e ∷ es) = leb (e .kind) 255 && leb (e .value) 255 && byteEvents es
+
+-- P holds of the target after some events from an accepted power-on with geometry g; what is lent is bytes (counts and flags
+-- are where power-on accepts them)
+pub record Reached (g : Geometry) (P : Target → Type 0) : Type 0 where
+  pub page : List ℕ
+  pub device : ℕ
+  pub array : List ℕ
+  pub registers : List ℕ
+  pub counts : List ℕ
+  pub flags : List ℕ
+  pub events : List Event
+  pub page-bytes : allAtMost 255 page ≡ true
+  pub device-byte : device ≤ 255
+  pub array-bytes : allAtMost 255 array ≡ true
+  pub registers-bytes : allAtMost 255 registers ≡ true
+  pub events-bytes : byteEvents events ≡ true
+  pub on : powerAnswer page (length array) (length registers) counts flags ≡ Accepted
+  pub sizes : geometryOf page ≡ g
+  pub holds : P (after page flags events (poweredUp page device array registers counts) .target)
+
+-- a run that leaves this sequence, this output
+abbrev pub Stands : Geometry → Sequence → Type 0
+Stands g s = Reached g (λ t. t .decoder .sequence ≡ s)
+
+abbrev pub Shows : Geometry → Output → Type 0
+Shows g o = Reached g (λ t. t .decoder .output ≡ o)
+
+-- each number of a sequence, in their order, is given by a run that ends in the same case, whatever numbers stand beside it;
+-- what has come of a half-given address is bytes
+abbrev pub SequenceGiven : Geometry → Sequence → Type 0
+SequenceGiven g Idle = Stands g Idle
+SequenceGiven g (Columns f got low) =
+    ((x : ℕ) × Stands g (Columns f got x))
+    × (low ≤ 255 → (n : ℕ) × Stands g (Columns f n low))
+SequenceGiven g (Rows f c got low mid) =
+    ((n : ℕ) × (x : ℕ) × (y : ℕ) × Stands g (Rows f c n x y))
+    × ((d : Column) × (x : ℕ) × (y : ℕ) × Stands g (Rows f d got x y))
+    × (low ≤ 255 → (d : Column) × (n : ℕ) × (y : ℕ) × Stands g (Rows f d n low y))
+    × (mid ≤ 255 → (d : Column) × (n : ℕ) × (x : ℕ) × Stands g (Rows f d n x mid))
+SequenceGiven g (Single f) = Stands g (Single f)
+SequenceGiven g (Due f c r) = ((q : Row) × Stands g (Due f c q)) × ((d : Column) × Stands g (Due f d r))
+SequenceGiven g (Filling r at) = ((d : Column) × Stands g (Filling r d)) × ((q : Row) × Stands g (Filling q at))
+SequenceGiven g (Moving r got low) =
+    ((n : ℕ) × (x : ℕ) × Stands g (Moving r n x))
+    × ((q : Row) × (x : ℕ) × Stands g (Moving q got x))
+    × (low ≤ 255 → (q : Row) × (n : ℕ) × Stands g (Moving q n low))
+SequenceGiven g (Setting got value) = ((x : ℕ) × Stands g (Setting got x)) × ((n : ℕ) × Stands g (Setting n value))
+
+abbrev pub OutputGiven : Geometry → Output → Type 0
+OutputGiven g output.Nothing = Shows g output.Nothing
+OutputGiven g (output.Register l c) =
+    ((d : Column) × Shows g (output.Register l d)) × ((k : ℕ) × Shows g (output.Register k c))
+OutputGiven g (output.Parameters at) = Shows g (output.Parameters at)
+OutputGiven g (output.Status l) = Shows g (output.Status l)
+OutputGiven g (output.Ids at) = Shows g (output.Ids at)
+OutputGiven g (output.Signature at) = Shows g (output.Signature at)
+OutputGiven g (output.Feature at) = Shows g (output.Feature at)
+
+-- each number of a record is given by a run with its geometry; IDs are bytes, and there are four LUN records
+pub record Given (t : Target) : Type 0 where
+  pub geometry : Reached (t .geometry) (λ u. u .geometry ≡ t .geometry)
+  pub options : Reached (t .geometry) (λ u. u .options ≡ t .options)
+  pub maker : t .ids .maker ≤ 255 → Reached (t .geometry) (λ u. u .ids .maker ≡ t .ids .maker)
+  pub device : t .ids .device ≤ 255 → Reached (t .geometry) (λ u. u .ids .device ≡ t .ids .device)
+  pub high : Reached (t .geometry) (λ u. u .high ≡ t .high)
+  pub clear : Reached (t .geometry) (λ u. u .clear ≡ t .clear)
+  pub seen : Reached (t .geometry) (λ u. u .seen ≡ t .seen)
+  pub selected : Reached (t .geometry) (λ u. u .selected ≡ t .selected)
+  pub working : (l : ℕ) → l < 4 → Reached (t .geometry) (λ u. works (u .luns) l ≡ works (t .luns) l)
+  pub fail : (l : ℕ) → l < 4 → Reached (t .geometry) (λ u. failed (u .luns) l ≡ failed (t .luns) l)
+  pub sequence : SequenceGiven (t .geometry) (t .decoder .sequence)
+  pub output : OutputGiven (t .geometry) (t .decoder .output)
+
+abbrev pub Tight : Type 0
+Tight = (t : Target) → recordSound t ≡ true → Given t
+
+abbrev pub ByItself : Type 0
+ByItself = (t : Target) → t .powered ≡ true → Given t → recordSound t ≡ true

@@ -1,0 +1,125 @@
+// The unread rest of the present output: a part of one of two lent slices, returned.
+use step::usable::record_sound;
+use target::Geometry;
+use target::Luns;
+use target::Output;
+use target::Target;
+use target::place::works;
+ghost use mathlib.Core.Path.{_≡_};
+ghost use mathlib.Core.Bool.{true};
+ghost use Rattle.slices.specs.Cells.{part};
+ghost use Rattle.target.specs.Pick.{pick};
+ghost use Rattle.target.specs.Sizes.{inLimits};
+ghost use Rattle.step.specs.Usable.{outputSound};
+ghost use Rattle.unread.specs.Rest.{empty, readable, unreadIn, unreadOf, restOf};
+
+// Which lent buffer a part is of.
+pub enum Source {
+    Nothing,
+    Registers,
+    Parameters,
+}
+
+// A part: the `count` bytes of `source` from `at` on.
+pub struct Unread {
+    pub source: Source,
+    pub at: usize,
+    pub count: usize,
+}
+
+fn nothing() -> Unread
+    ensures { λ u. ⌜ u ≡ empty ⌝ }
+{
+    Unread {
+        source: Source::Nothing,
+        at: 0,
+        count: 0,
+    }
+}
+
+fn pick_unread(b: bool, x: Unread, y: Unread) -> Unread
+    ensures { λ u. ⌜ u ≡ pick b x y ⌝ }
+{
+    if b { x } else { y }
+}
+
+// Rule 13 does not hold, of the record and these two lengths.
+pub fn readable(t: Target, params: usize, registers: usize) -> bool
+    ensures { λ b. ⌜ b ≡ readable t params registers ⌝ }
+{
+    if record_sound(t) {
+        let g = t.geometry;
+        (params == 256) & (registers == g.luns * g.page)
+    } else {
+        false
+    }
+}
+
+fn unread_in(g: Geometry, luns: Luns, o: Output) -> Unread
+    requires { ⌜ (inLimits g ≡ true) × (outputSound g o ≡ true) ⌝ }
+    ensures { λ u. ⌜ u ≡ unreadIn g luns o ⌝ }
+{
+    match o {
+        Output::Nothing => nothing(),
+        Output::Register { lun, column } => {
+            let there = Unread {
+                source: Source::Registers,
+                at: lun * g.page + column.0,
+                count: g.page - column.0,
+            };
+            pick_unread(works(luns, lun) | (g.page <= column.0), nothing(), there)
+        }
+        Output::Parameters { at } => {
+            let there = Unread {
+                source: Source::Parameters,
+                at: at % 256,
+                count: 256 - at % 256,
+            };
+            pick_unread(768 <= at, nothing(), there)
+        }
+        Output::Status { lun: _ } => nothing(),
+        Output::Ids { at: _ } => nothing(),
+        Output::Signature { at: _ } => nothing(),
+        Output::Feature { at: _ } => nothing(),
+    }
+}
+
+// Where the unread rest lies, from the lengths of the two buffers.
+pub fn unread_part(t: Target, params: usize, registers: usize) -> Unread
+    ensures { λ u. ⌜ u ≡ unreadOf t params registers ⌝ }
+{
+    if !readable(t, params, registers) {
+        return nothing();
+    }
+    let g = t.geometry;
+    let luns = t.luns;
+    let d = t.decoder;
+    let o = d.output;
+    unread_in(g, luns, o)
+}
+
+// The `count` bytes from `at` on, as many as there are.
+pub fn part_of(s: &[u8], at: usize, count: usize) -> &[u8]
+    ensures { λ r. ⌜ now r ≡ part (now (s .entry)) at count ⌝ }
+{
+    if s.len() <= at {
+        return &s[..0];
+    }
+    if s.len() - at <= count {
+        return &s[at..];
+    }
+    &s[at..at + count]
+}
+
+// The unread rest itself.
+pub fn rest<'a>(t: Target, params: &'a [u8], registers: &'a [u8]) -> &'a [u8]
+    ensures { λ r. ⌜ now r ≡ restOf t (now (params .entry)) (now (registers .entry)) ⌝ }
+{
+    let u = unread_part(t, params.len(), registers.len());
+    let source = u.source;
+    match source {
+        Source::Nothing => &params[..0],
+        Source::Registers => part_of(registers, u.at, u.count),
+        Source::Parameters => part_of(params, u.at, u.count),
+    }
+}
