@@ -7,7 +7,7 @@ use Prim.Native.Nat.{ℕ, _<_}
 use native.Mathlib.Omega.{arith}
 use lib.Dec.{eqb, eqb→eq}
 use lib.ListN.{length, getD}
-use Rattle.target.specs.Commands.{classOf}
+use Rattle.target.specs.Commands.{classOf, rowOf, secondRow}
 use Rattle.target.specs.declared.commands.Class.{Class}
 use Rattle.target.specs.declared.commands.Class.the-variants.{First, Second, Both, Alone, Unknown}
 use Rattle.target.proofs.Table.{at}
@@ -45,7 +45,7 @@ right : ℕ → ℕ → Bool
 right v x = eqb x (numberOfClass (classOf v))
 
 pub table-right : (v : ℕ) → v < 256 → getD classes v 0 ≡ numberOfClass (classOf v)
-unfolding classOf right
+unfolding classOf rowOf secondRow right
 table-right v h = eqb→eq (getD classes v 0) (numberOfClass (classOf v)) (at right classes tt v h)
 
 -- a class is told by its number

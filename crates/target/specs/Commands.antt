@@ -1,33 +1,196 @@
--- The command list (document 01, "What the model covers" and "Place").
+-- The command list (document 01, "What the model covers" and "Place"): the first commands and the second commands, what each is
+-- like, and the class of each byte.
 use Prim.Native.Nat.{ℕ}
 use mathlib.Core.Bool.{Bool, true, false, _&&_, _||_, not}
-use mathlib.Core.List.{List, [], _∷_}
+use mathlib.Core.List.{List, [], _∷_, map}
 use lib.ListN.{getD}
 use lib.Dec.{eqb}
 use Rattle.target.specs.Pick.{pick}
+use Rattle.target.specs.Words.{hasOption}
+use Rattle.target.specs.declared.Words.{Words}
 use Rattle.target.specs.declared.First.{First}
-use Rattle.target.specs.declared.First.the-variants.{Read, Jump, Fetch, Erase, Status, Look, Program, Identify, Parameters, GetFeature, SetFeature}
-use Rattle.target.specs.declared.Options.{Options}
+use Rattle.target.specs.declared.First.the-variants.{Read, ChangeColumn, ChangeColumnEnhanced, Erase, Status, StatusEnhanced, Program, ReadId, ParameterPage, GetFeatures, SetFeatures}
+use Rattle.target.specs.declared.Second.{Second}
+use Rattle.target.specs.declared.Second.the-variants.{StartRead, StartOutput, StartProgram, StartErase, Move}
 use Rattle.target.specs.declared.commands.Class.{Class}
 use Rattle.target.specs.declared.commands.Class.the-variants as class
+use Rattle.target.specs.declared.commands.Looks.{Looks}
+use Rattle.target.specs.declared.commands.Looks.the-variants as looks
+use Rattle.target.specs.declared.commands.Then.{Then}
+use Rattle.target.specs.declared.commands.Then.the-variants as then
+use Rattle.target.specs.declared.commands.Waits.{Waits}
+use Rattle.target.specs.declared.commands.Waits.the-variants as waits
+use Rattle.target.specs.declared.commands.Act.{Act}
+use Rattle.target.specs.declared.commands.Act.the-variants as act
 use Rattle.target.specs.declared.commands.FirstRow.{FirstRow}
+use Rattle.target.specs.declared.commands.FirstFound.{FirstFound}
+use Rattle.target.specs.declared.commands.FirstFound.the-variants as first
+use Rattle.target.specs.declared.commands.SecondRow.{SecondRow}
+use Rattle.target.specs.declared.commands.SecondFound.{SecondFound}
+use Rattle.target.specs.declared.commands.SecondFound.the-variants as second
+
+-- The first commands.
+
+-- the short list: byte, address cycles, second command (0 where there is none), which fields of its row are looked at, what follows
+-- its addresses, whether 5 is asked of its LUN, which LUNs 6 waits for, whether it clears registers, the addresses that a lone
+-- address cycle may have, and the optional bit that offers it (16: every part has it)
+abbrev pub firsts : List FirstRow
+firsts =
+    record { byte = 0x00; cycles = 5; second = 0x30; looks = looks.Page; then = then.Second; ready = true; waits = waits.Nobody; clears = false; one = 0x00; other = 0x00; option = 16 }
+    ∷ record { byte = 0x05; cycles = 2; second = 0xe0; looks = looks.Nothing; then = then.Second; ready = true; waits = waits.Nobody; clears = false; one = 0x00; other = 0x00; option = 16 }
+    ∷ record { byte = 0x06; cycles = 5; second = 0xe0; looks = looks.Lun; then = then.Second; ready = true; waits = waits.Nobody; clears = false; one = 0x00; other = 0x00; option = 6 }
+    ∷ record { byte = 0x60; cycles = 3; second = 0xd0; looks = looks.Block; then = then.Second; ready = true; waits = waits.Nobody; clears = false; one = 0x00; other = 0x00; option = 16 }
+    ∷ record { byte = 0x70; cycles = 0; second = 0x00; looks = looks.Nothing; then = then.Status; ready = false; waits = waits.Others; clears = false; one = 0x00; other = 0x00; option = 16 }
+    ∷ record { byte = 0x78; cycles = 3; second = 0x00; looks = looks.Lun; then = then.Status; ready = false; waits = waits.Nobody; clears = false; one = 0x00; other = 0x00; option = 3 }
+    ∷ record { byte = 0x80; cycles = 5; second = 0x10; looks = looks.Page; then = then.Data; ready = true; waits = waits.Nobody; clears = true; one = 0x00; other = 0x00; option = 16 }
+    ∷ record { byte = 0x90; cycles = 1; second = 0x00; looks = looks.Nothing; then = then.Id; ready = false; waits = waits.All; clears = false; one = 0x00; other = 0x20; option = 16 }
+    ∷ record { byte = 0xec; cycles = 1; second = 0x00; looks = looks.Nothing; then = then.ParameterPage; ready = false; waits = waits.All; clears = false; one = 0x00; other = 0x00; option = 16 }
+    ∷ record { byte = 0xee; cycles = 1; second = 0x00; looks = looks.Nothing; then = then.FeatureOut; ready = false; waits = waits.All; clears = false; one = 0x01; other = 0x01; option = 2 }
+    ∷ record { byte = 0xef; cycles = 1; second = 0x00; looks = looks.Nothing; then = then.FeatureIn; ready = false; waits = waits.All; clears = false; one = 0x01; other = 0x01; option = 2 }
+    ∷ []
+
+-- the place of a first command in that list
+abbrev pub placeOf : First → ℕ
+placeOf Read = 0
+placeOf ChangeColumn = 1
+placeOf ChangeColumnEnhanced = 2
+placeOf Erase = 3
+placeOf Status = 4
+placeOf StatusEnhanced = 5
+placeOf Program = 6
+placeOf ReadId = 7
+placeOf ParameterPage = 8
+placeOf GetFeatures = 9
+placeOf SetFeatures = 10
+
+-- the commands in the list's order
+abbrev pub firstCommands : List First
+firstCommands = Read ∷ ChangeColumn ∷ ChangeColumnEnhanced ∷ Erase ∷ Status ∷ StatusEnhanced ∷ Program ∷ ReadId ∷ ParameterPage ∷ GetFeatures ∷ SetFeatures ∷ []
+
+unfoldable pub rowOf : First → FirstRow
+rowOf f =
+    getD firsts (placeOf f)
+    (record { byte = 0; cycles = 0; second = 0; looks = looks.Nothing; then = then.Second; ready = false; waits = waits.Nobody; clears = false; one = 0; other = 0; option = 0 })
+
+abbrev pub byteOf : First → ℕ
+byteOf f = rowOf f .byte
+
+abbrev pub cyclesOf : First → ℕ
+cyclesOf f = rowOf f .cycles
+
+abbrev pub endOf : First → ℕ
+endOf f = rowOf f .second
+
+abbrev pub looksOf : First → Looks
+looksOf f = rowOf f .looks
+
+abbrev pub thenOf : First → Then
+thenOf f = rowOf f .then
+
+abbrev pub needsReady : First → Bool
+needsReady f = rowOf f .ready
+
+abbrev pub waitsFor : First → Waits
+waitsFor f = rowOf f .waits
+
+abbrev pub clearsRegister : First → Bool
+clearsRegister f = rowOf f .clears
+
+abbrev pub knowsAddress : First → ℕ → Bool
+knowsAddress f v = eqb v (rowOf f .one) || eqb v (rowOf f .other)
+
+-- of five cycles the first two are the column and the last three the row; two are a column, three a row
+abbrev pub takesColumn : First → Bool
+takesColumn f = eqb (cyclesOf f) 2 || eqb (cyclesOf f) 5
+
+abbrev pub takesRow : First → Bool
+takesRow f = eqb (cyclesOf f) 3 || eqb (cyclesOf f) 5
+
+abbrev pub isSecond : Then → Bool
+isSecond then.Second = true
+isSecond then.Data = false
+isSecond then.FeatureIn = false
+isSecond then.Status = false
+isSecond then.Id = false
+isSecond then.ParameterPage = false
+isSecond then.FeatureOut = false
+
+abbrev pub waitsSecond : First → Bool
+waitsSecond f = isSecond (thenOf f)
+
+-- the first command of the list with this byte
+abbrev pub firstIn : List First → ℕ → FirstFound
+firstIn [] v = first.Nothing
+firstIn (f ∷ fs) v = pick (eqb v (byteOf f)) (first.Found f) (firstIn fs v)
+
+unfoldable pub firstOf : ℕ → FirstFound
+firstOf v = firstIn firstCommands v
+
+-- 78h, 06h, EEh and EFh are optional: optional bit 3, 6 and 2
+abbrev pub offeredTo : Words → First → Bool
+offeredTo w f = eqb (rowOf f .option) 16 || hasOption w (rowOf f .option)
+
+abbrev pub offeredFound : Words → FirstFound → Bool
+offeredFound w first.Nothing = true
+offeredFound w (first.Found f) = offeredTo w f
+
+-- the part has the command of this byte; one that opens no sequence is always there
+unfoldable pub offered : Words → ℕ → Bool
+offered w v = offeredFound w (firstOf v)
+
+-- The second commands.
+
+-- byte; whether the LUN works from it on; whether 7 guards it; whether it puts the register out; what it does with the page or block
+abbrev pub seconds : List SecondRow
+seconds =
+    record { byte = 0x30; starts = true; guarded = false; shows = true; act = act.Load }
+    ∷ record { byte = 0xe0; starts = false; guarded = false; shows = true; act = act.Nothing }
+    ∷ record { byte = 0x10; starts = true; guarded = true; shows = false; act = act.Program }
+    ∷ record { byte = 0xd0; starts = true; guarded = true; shows = false; act = act.Erase }
+    ∷ record { byte = 0x85; starts = false; guarded = false; shows = false; act = act.Move }
+    ∷ []
+
+abbrev pub secondPlace : Second → ℕ
+secondPlace StartRead = 0
+secondPlace StartOutput = 1
+secondPlace StartProgram = 2
+secondPlace StartErase = 3
+secondPlace Move = 4
+
+abbrev pub secondCommands : List Second
+secondCommands = StartRead ∷ StartOutput ∷ StartProgram ∷ StartErase ∷ Move ∷ []
+
+unfoldable pub secondRow : Second → SecondRow
+secondRow s =
+    getD seconds (secondPlace s) (record { byte = 0; starts = false; guarded = false; shows = false; act = act.Nothing })
+
+abbrev pub secondByte : Second → ℕ
+secondByte s = secondRow s .byte
+
+abbrev pub secondIn : List Second → ℕ → SecondFound
+secondIn [] v = second.Nothing
+secondIn (s ∷ ss) v = pick (eqb v (secondByte s)) (second.Found s) (secondIn ss v)
+
+unfoldable pub secondOf : ℕ → SecondFound
+secondOf v = secondIn secondCommands v
+
+-- The class of each byte.
 
 abbrev pub isIn : ℕ → List ℕ → Bool
 isIn v [] = false
 isIn v (x ∷ xs) = eqb v x || isIn v xs
 
--- 00h-30h read, 05h-E0h and 06h-E0h column changes, 60h-D0h erase, 70h and 78h status, 80h-10h program, 85h column change
--- inside a program, 90h, ECh, EEh, EFh, FFh
 abbrev pub firstBytes : List ℕ
-firstBytes = 0x00 ∷ 0x05 ∷ 0x06 ∷ 0x60 ∷ 0x70 ∷ 0x78 ∷ 0x80 ∷ 0x90 ∷ 0xec ∷ 0xee ∷ 0xef ∷ []
+firstBytes = map byteOf firstCommands
 
 abbrev pub secondBytes : List ℕ
-secondBytes = 0x10 ∷ 0x30 ∷ 0x85 ∷ 0xd0 ∷ 0xe0 ∷ []
+secondBytes = map secondByte secondCommands
 
+-- FFh
 abbrev pub aloneBytes : List ℕ
 aloneBytes = 0xff ∷ []
 
--- the class of a command byte
+-- first, second, both, alone or unknown, by the two lists; optional bits don't count
 unfoldable pub classOf : ℕ → Class
 classOf v =
     pick (isIn v firstBytes && isIn v secondBytes) class.Both
@@ -49,54 +212,3 @@ isKnown class.Second = true
 isKnown class.Both = true
 isKnown class.Alone = true
 isKnown class.Unknown = false
-
--- the first commands: byte, address cycles, second command (0 where there is none)
-abbrev pub firsts : List FirstRow
-firsts =
-    record { byte = 0x00; cycles = 5; second = 0x30 }
-    ∷ record { byte = 0x05; cycles = 2; second = 0xe0 }
-    ∷ record { byte = 0x06; cycles = 5; second = 0xe0 }
-    ∷ record { byte = 0x60; cycles = 3; second = 0xd0 }
-    ∷ record { byte = 0x70; cycles = 0; second = 0 }
-    ∷ record { byte = 0x78; cycles = 3; second = 0 }
-    ∷ record { byte = 0x80; cycles = 5; second = 0x10 }
-    ∷ record { byte = 0x90; cycles = 1; second = 0 }
-    ∷ record { byte = 0xec; cycles = 1; second = 0 }
-    ∷ record { byte = 0xee; cycles = 1; second = 0 }
-    ∷ record { byte = 0xef; cycles = 1; second = 0 }
-    ∷ []
-
--- the place of a first command in that list
-abbrev pub placeOf : First → ℕ
-placeOf Read = 0
-placeOf Jump = 1
-placeOf Fetch = 2
-placeOf Erase = 3
-placeOf Status = 4
-placeOf Look = 5
-placeOf Program = 6
-placeOf Identify = 7
-placeOf Parameters = 8
-placeOf GetFeature = 9
-placeOf SetFeature = 10
-
-abbrev pub rowOf : First → FirstRow
-rowOf f = getD firsts (placeOf f) (record { byte = 0; cycles = 0; second = 0 })
-
-abbrev pub cyclesOf : First → ℕ
-cyclesOf f = rowOf f .cycles
-
-abbrev pub secondOf : First → ℕ
-secondOf f = rowOf f .second
-
--- of five cycles the first two are the column and the last three the row; two are a column, three a row
-abbrev pub takesColumn : First → Bool
-takesColumn f = eqb (cyclesOf f) 2 || eqb (cyclesOf f) 5
-
-abbrev pub takesRow : First → Bool
-takesRow f = eqb (cyclesOf f) 3 || eqb (cyclesOf f) 5
-
--- the part has the command: optional bit 3 for 78h, 6 for 06h, 2 for EEh and EFh
-unfoldable pub offered : Options → ℕ → Bool
-offered o v =
-    not (eqb v 0x78 && not (o .look) || eqb v 0x06 && not (o .fetch) || (eqb v 0xee || eqb v 0xef) && not (o .features))

@@ -1,7 +1,10 @@
 pub mod Pick
 pub mod Numbers
+pub mod Words
+pub mod Sizes
 pub mod Address
 pub mod Commands
+pub mod Views
+pub mod Luns
 pub mod Place
 pub mod Events
-pub mod Sizes

@@ -1,8 +1,10 @@
-// The command list: each byte's class, and the first commands with their address cycles and second command.
+// The command list: each byte's class, the first commands and the second commands, and what each is like.
 use crate::First;
-use crate::Options;
+use crate::Second;
+use crate::Words;
+use crate::bits::has_option;
 ghost use mathlib.Core.Path.{_≡_};
-ghost use Rattle.target.specs.Commands.{classOf, isFirst, isKnown, placeOf, cyclesOf, secondOf, takesColumn, takesRow, offered};
+ghost use Rattle.target.specs.Commands.{classOf, isFirst, isKnown, firstOf, placeOf, rowOf, cyclesOf, endOf, looksOf, thenOf, needsReady, waitsFor, clearsRegister, knowsAddress, takesColumn, takesRow, waitsSecond, secondPlace, secondRow, secondOf, offeredTo, offered};
 
 // Each command byte has one class; optional bits don't count.
 pub enum Class {
@@ -318,12 +320,62 @@ pub fn is_known(v: u8) -> bool
     }
 }
 
-// A first command: its byte, how many address cycles follow, and its second command (0 where there is none; 00h is no second
-// command).
+// Which fields of a command's row are looked at.
+pub enum Looks {
+    // it has no row
+    Nothing,
+    Lun,
+    // block and LUN
+    Block,
+    // page, block and LUN
+    Page,
+}
+
+// What follows a command's last address cycle.
+pub enum Then {
+    // its second command is due
+    Second,
+    // data goes in
+    Data,
+    // four feature bytes go in
+    FeatureIn,
+    // a status comes out: of the row's LUN, and where there is no row of the selected one
+    Status,
+    // IDs come out, or the signature, by the address
+    Id,
+    // the parameter page comes out
+    ParameterPage,
+    // the feature's four bytes come out
+    FeatureOut,
+}
+
+// Which LUNs have to be ready when a command comes (refusal 6).
+pub enum Waits {
+    Nobody,
+    // all but the selected one
+    Others,
+    All,
+}
+
+// What a first command is like.
 pub struct FirstRow {
     pub byte: u8,
+    // how many address cycles follow
     pub cycles: u8,
+    // the second command's byte, 0 where there is none (00h is no second command)
     pub second: u8,
+    pub looks: Looks,
+    pub then: Then,
+    // refusal 5 is asked of its LUN with its last address cycle
+    pub ready: bool,
+    pub waits: Waits,
+    // program-clear says which registers it clears
+    pub clears: bool,
+    // the two values that its one address may have
+    pub one: u8,
+    pub other: u8,
+    // the bit of the optional-command word that offers it; 16 where every part has it
+    pub option: u8,
 }
 
 const FIRSTS: [FirstRow; 11] = [
@@ -331,58 +383,172 @@ const FIRSTS: [FirstRow; 11] = [
         byte: 0x00,
         cycles: 5,
         second: 0x30,
+        looks: Looks::Page,
+        then: Then::Second,
+        ready: true,
+        waits: Waits::Nobody,
+        clears: false,
+        one: 0x00,
+        other: 0x00,
+        option: 16,
     },
     FirstRow {
         byte: 0x05,
         cycles: 2,
         second: 0xe0,
+        looks: Looks::Nothing,
+        then: Then::Second,
+        ready: true,
+        waits: Waits::Nobody,
+        clears: false,
+        one: 0x00,
+        other: 0x00,
+        option: 16,
     },
     FirstRow {
         byte: 0x06,
         cycles: 5,
         second: 0xe0,
+        looks: Looks::Lun,
+        then: Then::Second,
+        ready: true,
+        waits: Waits::Nobody,
+        clears: false,
+        one: 0x00,
+        other: 0x00,
+        option: 6,
     },
     FirstRow {
         byte: 0x60,
         cycles: 3,
         second: 0xd0,
+        looks: Looks::Block,
+        then: Then::Second,
+        ready: true,
+        waits: Waits::Nobody,
+        clears: false,
+        one: 0x00,
+        other: 0x00,
+        option: 16,
     },
     FirstRow {
         byte: 0x70,
         cycles: 0,
-        second: 0,
+        second: 0x00,
+        looks: Looks::Nothing,
+        then: Then::Status,
+        ready: false,
+        waits: Waits::Others,
+        clears: false,
+        one: 0x00,
+        other: 0x00,
+        option: 16,
     },
     FirstRow {
         byte: 0x78,
         cycles: 3,
-        second: 0,
+        second: 0x00,
+        looks: Looks::Lun,
+        then: Then::Status,
+        ready: false,
+        waits: Waits::Nobody,
+        clears: false,
+        one: 0x00,
+        other: 0x00,
+        option: 3,
     },
     FirstRow {
         byte: 0x80,
         cycles: 5,
         second: 0x10,
+        looks: Looks::Page,
+        then: Then::Data,
+        ready: true,
+        waits: Waits::Nobody,
+        clears: true,
+        one: 0x00,
+        other: 0x00,
+        option: 16,
     },
     FirstRow {
         byte: 0x90,
         cycles: 1,
-        second: 0,
+        second: 0x00,
+        looks: Looks::Nothing,
+        then: Then::Id,
+        ready: false,
+        waits: Waits::All,
+        clears: false,
+        one: 0x00,
+        other: 0x20,
+        option: 16,
     },
     FirstRow {
         byte: 0xec,
         cycles: 1,
-        second: 0,
+        second: 0x00,
+        looks: Looks::Nothing,
+        then: Then::ParameterPage,
+        ready: false,
+        waits: Waits::All,
+        clears: false,
+        one: 0x00,
+        other: 0x00,
+        option: 16,
     },
     FirstRow {
         byte: 0xee,
         cycles: 1,
-        second: 0,
+        second: 0x00,
+        looks: Looks::Nothing,
+        then: Then::FeatureOut,
+        ready: false,
+        waits: Waits::All,
+        clears: false,
+        one: 0x01,
+        other: 0x01,
+        option: 2,
     },
     FirstRow {
         byte: 0xef,
         cycles: 1,
-        second: 0,
+        second: 0x00,
+        looks: Looks::Nothing,
+        then: Then::FeatureIn,
+        ready: false,
+        waits: Waits::All,
+        clears: false,
+        one: 0x01,
+        other: 0x01,
+        option: 2,
     },
 ];
+
+// A first command, or none.
+pub enum FirstFound {
+    Nothing,
+    Found(First),
+}
+
+// The first command with this byte.
+pub fn first_of(v: u8) -> FirstFound
+    ensures { λ r. ⌜ r ≡ firstOf v ⌝ }
+{
+    match v {
+        0x00 => FirstFound::Found(First::Read),
+        0x05 => FirstFound::Found(First::ChangeColumn),
+        0x06 => FirstFound::Found(First::ChangeColumnEnhanced),
+        0x60 => FirstFound::Found(First::Erase),
+        0x70 => FirstFound::Found(First::Status),
+        0x78 => FirstFound::Found(First::StatusEnhanced),
+        0x80 => FirstFound::Found(First::Program),
+        0x90 => FirstFound::Found(First::ReadId),
+        0xec => FirstFound::Found(First::ParameterPage),
+        0xee => FirstFound::Found(First::GetFeatures),
+        0xef => FirstFound::Found(First::SetFeatures),
+        _ => FirstFound::Nothing,
+    }
+}
 
 // The place of a first command in the list.
 pub fn place_of(f: First) -> usize
@@ -390,33 +556,82 @@ pub fn place_of(f: First) -> usize
 {
     match f {
         First::Read => 0,
-        First::Jump => 1,
-        First::Fetch => 2,
+        First::ChangeColumn => 1,
+        First::ChangeColumnEnhanced => 2,
         First::Erase => 3,
         First::Status => 4,
-        First::Look => 5,
+        First::StatusEnhanced => 5,
         First::Program => 6,
-        First::Identify => 7,
-        First::Parameters => 8,
-        First::GetFeature => 9,
-        First::SetFeature => 10,
+        First::ReadId => 7,
+        First::ParameterPage => 8,
+        First::GetFeatures => 9,
+        First::SetFeatures => 10,
     }
+}
+
+// The command's row of the list.
+pub fn row_of(f: First) -> FirstRow
+    ensures { λ r. ⌜ r ≡ rowOf f ⌝ }
+{
+    let i = place_of(f);
+    FIRSTS[i]
 }
 
 pub fn cycles_of(f: First) -> u8
     ensures { λ r. ⌜ r ≡ cyclesOf f ⌝ }
 {
-    let i = place_of(f);
-    let row = FIRSTS[i];
+    let row = row_of(f);
     row.cycles
 }
 
-pub fn second_of(f: First) -> u8
-    ensures { λ r. ⌜ r ≡ secondOf f ⌝ }
+pub fn end_of(f: First) -> u8
+    ensures { λ r. ⌜ r ≡ endOf f ⌝ }
 {
-    let i = place_of(f);
-    let row = FIRSTS[i];
+    let row = row_of(f);
     row.second
+}
+
+pub fn looks_of(f: First) -> Looks
+    ensures { λ r. ⌜ r ≡ looksOf f ⌝ }
+{
+    let row = row_of(f);
+    row.looks
+}
+
+pub fn then_of(f: First) -> Then
+    ensures { λ r. ⌜ r ≡ thenOf f ⌝ }
+{
+    let row = row_of(f);
+    row.then
+}
+
+pub fn needs_ready(f: First) -> bool
+    ensures { λ r. ⌜ r ≡ needsReady f ⌝ }
+{
+    let row = row_of(f);
+    row.ready
+}
+
+pub fn waits_for(f: First) -> Waits
+    ensures { λ r. ⌜ r ≡ waitsFor f ⌝ }
+{
+    let row = row_of(f);
+    row.waits
+}
+
+pub fn clears_register(f: First) -> bool
+    ensures { λ r. ⌜ r ≡ clearsRegister f ⌝ }
+{
+    let row = row_of(f);
+    row.clears
+}
+
+// The one address of 90h, ECh, EEh or EFh is one that it knows.
+pub fn knows_address(f: First, v: u8) -> bool
+    ensures { λ b. ⌜ b ≡ knowsAddress f v ⌝ }
+{
+    let row = row_of(f);
+    (v == row.one) | (v == row.other)
 }
 
 pub fn takes_column(f: First) -> bool
@@ -433,11 +648,136 @@ pub fn takes_row(f: First) -> bool
     (n == 3) | (n == 5)
 }
 
-// The part has the command: 78h, 06h, EEh and EFh are optional.
-pub fn offered(o: Options, v: u8) -> bool
-    ensures { λ b. ⌜ b ≡ offered o v ⌝ }
+// Its second command is due once its addresses have come.
+pub fn waits_second(f: First) -> bool
+    ensures { λ b. ⌜ b ≡ waitsSecond f ⌝ }
 {
-    !(((v == 0x78) & !o.look)
-        | ((v == 0x06) & !o.fetch)
-        | (((v == 0xee) | (v == 0xef)) & !o.features))
+    match then_of(f) {
+        Then::Second => true,
+        Then::Data => false,
+        Then::FeatureIn => false,
+        Then::Status => false,
+        Then::Id => false,
+        Then::ParameterPage => false,
+        Then::FeatureOut => false,
+    }
+}
+
+// The part has the command.
+pub fn offered_to(w: Words, f: First) -> bool
+    ensures { λ b. ⌜ b ≡ offeredTo w f ⌝ }
+{
+    let row = row_of(f);
+    (row.option == 16) | has_option(w, row.option)
+}
+
+// The part has the command of this byte, if it opens a sequence: others are always there.
+pub fn offered(w: Words, v: u8) -> bool
+    ensures { λ b. ⌜ b ≡ offered w v ⌝ }
+{
+    match first_of(v) {
+        FirstFound::Nothing => true,
+        FirstFound::Found(f) => offered_to(w, f),
+    }
+}
+
+// What a second command does with the page or block that the sequence named.
+pub enum Act {
+    Nothing,
+    Load,
+    Program,
+    Erase,
+    // the program goes on at another column
+    Move,
+}
+
+// What a second command is like.
+pub struct SecondRow {
+    pub byte: u8,
+    // the LUN works from it on
+    pub starts: bool,
+    // refused with 7 while the protect line is low
+    pub guarded: bool,
+    // the register is put out from the column on
+    pub shows: bool,
+    pub act: Act,
+}
+
+const SECONDS: [SecondRow; 5] = [
+    SecondRow {
+        byte: 0x30,
+        starts: true,
+        guarded: false,
+        shows: true,
+        act: Act::Load,
+    },
+    SecondRow {
+        byte: 0xe0,
+        starts: false,
+        guarded: false,
+        shows: true,
+        act: Act::Nothing,
+    },
+    SecondRow {
+        byte: 0x10,
+        starts: true,
+        guarded: true,
+        shows: false,
+        act: Act::Program,
+    },
+    SecondRow {
+        byte: 0xd0,
+        starts: true,
+        guarded: true,
+        shows: false,
+        act: Act::Erase,
+    },
+    SecondRow {
+        byte: 0x85,
+        starts: false,
+        guarded: false,
+        shows: false,
+        act: Act::Move,
+    },
+];
+
+// A second command, or none.
+pub enum SecondFound {
+    Nothing,
+    Found(Second),
+}
+
+// The second command with this byte.
+pub fn second_of(v: u8) -> SecondFound
+    ensures { λ r. ⌜ r ≡ secondOf v ⌝ }
+{
+    match v {
+        0x30 => SecondFound::Found(Second::StartRead),
+        0xe0 => SecondFound::Found(Second::StartOutput),
+        0x10 => SecondFound::Found(Second::StartProgram),
+        0xd0 => SecondFound::Found(Second::StartErase),
+        0x85 => SecondFound::Found(Second::Move),
+        _ => SecondFound::Nothing,
+    }
+}
+
+// The place of a second command in the list.
+pub fn second_place(s: Second) -> usize
+    ensures { λ r. ⌜ r ≡ secondPlace s ⌝ }
+{
+    match s {
+        Second::StartRead => 0,
+        Second::StartOutput => 1,
+        Second::StartProgram => 2,
+        Second::StartErase => 3,
+        Second::Move => 4,
+    }
+}
+
+// The command's row of the list.
+pub fn second_row(s: Second) -> SecondRow
+    ensures { λ r. ⌜ r ≡ secondRow s ⌝ }
+{
+    let i = second_place(s);
+    SECONDS[i]
 }

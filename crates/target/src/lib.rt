@@ -1,11 +1,15 @@
 // The target's record and its parts, all by value: events, replies and refusals, addresses, the command list, and the place
 // that a sequence of bus cycles has reached. No function here has a `requires`, and none sees a lent buffer.
 pub mod address;
+pub mod bits;
 pub mod commands;
 pub mod events;
 pub mod picks;
+
 pub mod place;
+pub mod records;
 pub mod sizes;
+pub mod views;
 
 ghost use mathlib.Core.Path.{_≡_};
 ghost use Rattle.target.specs.Numbers.{numberOf, replyFirst, replySecond};
@@ -17,8 +21,9 @@ pub struct Column(pub usize);
 
 // The sizes that the parameter page gave.
 pub struct Geometry {
-    // page size P: data and spare bytes
-    pub page: usize,
+    // data bytes and spare bytes of a page; together they are the page size P
+    pub bytes: u16,
+    pub spare: u16,
     // pages a block
     pub pages: usize,
     // blocks a LUN
@@ -28,16 +33,12 @@ pub struct Geometry {
     pub programs: usize,
 }
 
-// What the part offers beside the commands that every part has.
-pub struct Options {
-    // 78h: optional command bit 3
-    pub look: bool,
-    // 06h: optional command bit 6
-    pub fetch: bool,
-    // EEh and EFh: optional command bit 2
-    pub features: bool,
-    // program-clear, 40h at feature address 01h: feature bit 8
-    pub clear: bool,
+// The two words of the parameter page that say what the part offers, as they came.
+pub struct Words {
+    // bytes 6 and 7: features supported
+    pub features: u16,
+    // bytes 8 and 9: optional commands supported
+    pub optional: u16,
 }
 
 pub struct Ids {
@@ -53,75 +54,99 @@ pub struct Lun {
 // A record for each LUN that a target may have.
 pub type Luns = [Lun; 4];
 
-// The first commands; `commands::FIRSTS` is their list.
+// The first commands, by the standard's names; `commands::FIRSTS` is their list, and says what each is like.
 pub enum First {
     // 00h
     Read,
-    // 05h: column change in the selected LUN
-    Jump,
-    // 06h: column change in the LUN that its row names
-    Fetch,
+    // 05h: change read column, in the selected LUN
+    ChangeColumn,
+    // 06h: change read column enhanced, in the LUN that its row names
+    ChangeColumnEnhanced,
     // 60h
     Erase,
     // 70h
     Status,
-    // 78h: status of the LUN that its row names
-    Look,
+    // 78h: read status enhanced, of the LUN that its row names
+    StatusEnhanced,
     // 80h
     Program,
     // 90h
-    Identify,
+    ReadId,
     // ECh
-    Parameters,
+    ParameterPage,
     // EEh
-    GetFeature,
+    GetFeatures,
     // EFh
-    SetFeature,
+    SetFeatures,
+}
+
+// The second commands; `commands::SECONDS` is their list.
+pub enum Second {
+    // 30h: the page is read
+    StartRead,
+    // E0h: the register is put out
+    StartOutput,
+    // 10h: the page is programmed
+    StartProgram,
+    // D0h: the block is erased
+    StartErase,
+    // 85h inside a program: its data goes on at another column
+    Move,
+}
+
+// Column cycles: `got` of two have come, the first of which was `low`.
+pub struct ColumnCycles {
+    pub first: First,
+    pub got: u8,
+    pub low: u8,
+}
+
+// Row cycles, after the column's where there is one: `got` of three have come.
+pub struct RowCycles {
+    pub first: First,
+    pub column: Column,
+    pub got: u8,
+    pub low: u8,
+    pub mid: u8,
+}
+
+// All addresses have come, and the second command is due.
+pub struct Wait {
+    pub first: First,
+    pub column: Column,
+    pub row: Row,
+}
+
+// A program that takes data; `at` is the place of the next byte.
+pub struct Fill {
+    pub row: Row,
+    pub at: Column,
+}
+
+// 85h inside a program: `got` of its two column cycles have come.
+pub struct Moved {
+    pub row: Row,
+    pub got: u8,
+    pub low: u8,
+}
+
+// EFh: `got` of its four bytes have come, the first of which was `value`.
+pub struct FeatureBytes {
+    pub got: u8,
+    pub value: u8,
 }
 
 // The open sequence, by its shape. A `Column` or a `Row` is whole; bytes of a half-given one stand in `low` and `mid`.
 pub enum Sequence {
     Idle,
-    // column cycles: `got` of two have come
-    Columns {
-        first: First,
-        got: u8,
-        low: u8,
-    },
-    // row cycles: `got` of three have come
-    Rows {
-        first: First,
-        column: Column,
-        got: u8,
-        low: u8,
-        mid: u8,
-    },
+    Columns(ColumnCycles),
+    Rows(RowCycles),
     // the one address cycle of 90h, ECh, EEh or EFh
-    Single {
-        first: First,
-    },
-    // all addresses have come, and the second command is due
-    Due {
-        first: First,
-        column: Column,
-        row: Row,
-    },
-    // a program that takes data; `at` is the place of the next byte
-    Filling {
-        row: Row,
-        at: Column,
-    },
-    // 85h inside a program: `got` of its two column cycles have come
-    Moving {
-        row: Row,
-        got: u8,
-        low: u8,
-    },
-    // EFh: `got` of its four bytes have come, the first of which was `value`
-    Setting {
-        got: u8,
-        value: u8,
-    },
+    Single(First),
+    Due(Wait),
+    Filling(Fill),
+    Moving(Moved),
+    Setting(FeatureBytes),
 }
 
 // What the next data-out cycle gives.
@@ -148,7 +173,7 @@ pub struct Decoder {
 pub struct Target {
     pub powered: bool,
     pub geometry: Geometry,
-    pub options: Options,
+    pub words: Words,
     pub ids: Ids,
     // the protect line
     pub high: bool,
@@ -191,6 +216,11 @@ pub enum Reply {
     Accepted,
     Byte(u8),
     Refused(Refusal),
+}
+
+// What the lent buffers say of the command that comes: a read always proceeds, a program or an erase where its page and block allow it.
+pub struct Findings {
+    pub proceeds: bool,
 }
 
 // What an accepted event does to the lent buffers.

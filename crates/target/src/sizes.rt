@@ -2,7 +2,14 @@
 use crate::Geometry;
 ghost use mathlib.Core.Path.{_≡_};
 ghost use mathlib.Core.Bool.{true};
-ghost use Rattle.target.specs.Sizes.{within, inLimits, sized};
+ghost use Rattle.target.specs.Sizes.{pageSize, within, inLimits, sized};
+
+// The page size P.
+pub fn page_size(g: Geometry) -> usize
+    ensures { λ r. ⌜ r ≡ pageSize g ⌝ }
+{
+    g.bytes as usize + g.spare as usize
+}
 
 pub fn within(low: usize, x: usize, high: usize) -> bool
     ensures { λ b. ⌜ b ≡ within low x high ⌝ }
@@ -13,7 +20,8 @@ pub fn within(low: usize, x: usize, high: usize) -> bool
 pub fn in_limits(g: Geometry) -> bool
     ensures { λ b. ⌜ b ≡ inLimits g ⌝ }
 {
-    within(16, g.page, 18432)
+    within(16, g.bytes as usize, 16384)
+        & (g.spare <= 2048)
         & within(1, g.pages, 256)
         & within(1, g.blocks, 4096)
         & within(1, g.luns, 4)
@@ -27,7 +35,8 @@ pub fn sized(g: Geometry, array: usize, registers: usize, counts: usize, flags: 
 {
     let blocks = g.luns * g.blocks;
     let pages = blocks * g.pages;
-    let bytes = pages * g.page;
-    let registered = g.luns * g.page;
+    let p = page_size(g);
+    let bytes = pages * p;
+    let registered = g.luns * p;
     (array == bytes) & (registers == registered) & (counts == pages) & (flags == blocks)
 }

@@ -1,24 +1,41 @@
 -- `target::commands::second_of` meets its contract.
 -- Assumes nothing.
-use native.Mathlib.Omega.{arith}
-use Rattle.target.proofs.Firsts.{listed}
-use borrow.Author.Needs.{needs}
+use Rattle.target.specs.Commands.{secondOf, secondRow}
+use borrow.Author.Tests.{ne-eqb}
 use Rattle.target.proofs.commands.second_of.Statement.{statement}
 use Rattle.target.proofs.commands.second_of.Tie as tie
 
-place-of-requires : tie.Need-place-of-requires
-place-of-requires c κs = search needs
-
-mul-row : tie.Need-mul-row
-mul-row c = rw (c .place-of .ensures) (omega (arith, listed (c .before .args .f)))
-
-array-copy-out-row : tie.Need-array-copy-out-row
-array-copy-out-row c = rw (c .place-of .ensures) (listed (c .before .args .f))
-
 returns : tie.Need-returns
-returns c =
-    let c1 = c .before in
-    rw (c1 .place-of .ensures)
+unfolding secondOf secondRow
+returns c = rw (c .match .keys1)
+
+returns-2 : tie.Need-returns-2
+unfolding secondOf secondRow
+returns-2 c = rw (c .match .keys2)
+
+returns-3 : tie.Need-returns-3
+unfolding secondOf secondRow
+returns-3 c = rw (c .match .keys3)
+
+returns-4 : tie.Need-returns-4
+unfolding secondOf secondRow
+returns-4 c = rw (c .match .keys4)
+
+returns-5 : tie.Need-returns-5
+unfolding secondOf secondRow
+returns-5 c = rw (c .match .keys5)
+
+returns-6 : tie.Need-returns-6
+unfolding secondOf secondRow
+returns-6 c =
+    let none = c .match .rest in
+    rw (
+      ne-eqb _ _ (none .1),
+      ne-eqb _ _ (none .0 .1),
+      ne-eqb _ _ (none .0 .0 .1),
+      ne-eqb _ _ (none .0 .0 .0 .1),
+      ne-eqb _ _ (none .0 .0 .0 .0 .1),
+    )
 
 pub second-of-spec : {M : Type 1} → statement M
-second-of-spec = tie.close (tie.spec place-of-requires mul-row array-copy-out-row returns)
+second-of-spec = tie.close (tie.spec returns returns-2 returns-3 returns-4 returns-5 returns-6)

@@ -4,12 +4,12 @@ use borrow.Author.Needs.{needs}
 use Rattle.target.proofs.place.takes_command.Statement.{statement}
 use Rattle.target.proofs.place.takes_command.Tie as tie
 
-takes-second-requires : tie.Need-takes-second-requires
-takes-second-requires c κs = search needs
+command-fits-requires : tie.Need-command-fits-requires
+command-fits-requires c κs = search needs
 
 returns : tie.Need-returns
 returns c =
-    rw (c .takes-second .ensures)
+    rw (c .command-fits .ensures)
 
 pub takes-command-spec : {M : Type 1} → statement M
-takes-command-spec = tie.close (tie.spec takes-second-requires returns)
+takes-command-spec = tie.close (tie.spec command-fits-requires returns)

@@ -5,6 +5,9 @@ use borrow.Author.Needs.{needs}
 use Rattle.target.proofs.sizes.in_limits.Statement.{statement}
 use Rattle.target.proofs.sizes.in_limits.Tie as tie
 
+cast-within : tie.Need-cast-within
+cast-within c = search needs
+
 within-requires : tie.Need-within-requires
 within-requires c κs = search needs
 
@@ -26,19 +29,20 @@ returns c =
     let c1 = c .before in
     let c2 = c1 .before in
     let c3 = c2 .before in
-    let c4 = c3 .before in
+    let c5 = c3 .before .before in
     rw (
       c .within5 .ensures,
       c1 .within4 .ensures,
       c2 .within3 .ensures,
       c3 .within2 .ensures,
-      c4 .within .ensures,
+      c5 .within .ensures,
     )
 
 pub in-limits-spec : {M : Type 1} → statement M
 in-limits-spec =
     tie.close
     (tie.spec
+    cast-within
     within-requires
     within-requires-2
     within-requires-3

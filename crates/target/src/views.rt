@@ -1,0 +1,182 @@
+// Views of the open sequence, each matched once: what an address cycle completes, what takes data, which second command ends it. The
+// rules and the effects read these and not the sequence's shape.
+use crate::Column;
+use crate::Fill;
+use crate::First;
+use crate::FeatureBytes;
+use crate::Row;
+use crate::Second;
+use crate::Sequence;
+use crate::address::column_from;
+use crate::address::row_from;
+use crate::commands::end_of;
+use crate::commands::needs_ready;
+use crate::commands::second_of;
+use crate::commands::SecondFound;
+use crate::commands::takes_row;
+ghost use mathlib.Core.Path.{_≡_};
+ghost use Rattle.target.specs.Pick.{pick};
+ghost use Rattle.target.specs.Views.{asksSelected, completed, taking, ending, endedBy};
+
+// A whole column; `asks` says that no row follows, so that 5 is asked of the selected LUN with it.
+pub struct ColumnGiven {
+    pub column: Column,
+    pub asks: bool,
+}
+
+// A whole row, and the command that it belongs to.
+pub struct RowGiven {
+    pub first: First,
+    pub row: Row,
+}
+
+// The one address of a command that has no more.
+pub struct SingleGiven {
+    pub first: First,
+    pub value: u8,
+}
+
+// What an address cycle completes.
+pub enum Given {
+    Nothing,
+    Column(ColumnGiven),
+    Row(RowGiven),
+    Single(SingleGiven),
+}
+
+// What takes the data-in cycles.
+pub enum Taker {
+    Nothing,
+    Program(Fill),
+    Feature(FeatureBytes),
+}
+
+// A second command that fits, with the addresses that the sequence has; `rowed` says that there is a row among them.
+pub struct Ended {
+    pub second: Second,
+    pub column: Column,
+    pub row: Row,
+    pub rowed: bool,
+}
+
+// The second command that ends the sequence.
+pub enum Ender {
+    Nothing,
+    By(Ended),
+}
+
+fn pick_completed(b: bool, x: Given, y: Given) -> Given
+    ensures { λ r. ⌜ r ≡ pick b x y ⌝ }
+{
+    if b { x } else { y }
+}
+
+fn pick_ending(b: bool, x: Ender, y: Ender) -> Ender
+    ensures { λ r. ⌜ r ≡ pick b x y ⌝ }
+{
+    if b { x } else { y }
+}
+
+// 05h has no row: 5 is asked of the selected LUN.
+pub fn asks_selected(f: First) -> bool
+    ensures { λ b. ⌜ b ≡ asksSelected f ⌝ }
+{
+    needs_ready(f) & !takes_row(f)
+}
+
+pub fn completed(s: Sequence, v: u8) -> Given
+    ensures { λ r. ⌜ r ≡ completed s v ⌝ }
+{
+    match s {
+        Sequence::Idle => Given::Nothing,
+        Sequence::Columns(k) => {
+            let f = k.first;
+            let given = ColumnGiven {
+                column: column_from(k.low, v),
+                asks: asks_selected(f),
+            };
+            pick_completed(k.got == 1, Given::Column(given), Given::Nothing)
+        }
+        Sequence::Rows(k) => {
+            let first = k.first;
+            let given = RowGiven {
+                first,
+                row: row_from(k.low, k.mid, v),
+            };
+            pick_completed(k.got == 2, Given::Row(given), Given::Nothing)
+        }
+        Sequence::Single(f) => {
+            let given = SingleGiven { first: f, value: v };
+            Given::Single(given)
+        }
+        Sequence::Due(_) => Given::Nothing,
+        Sequence::Filling(_) => Given::Nothing,
+        Sequence::Moving(k) => {
+            let given = ColumnGiven {
+                column: column_from(k.low, v),
+                asks: false,
+            };
+            pick_completed(k.got == 1, Given::Column(given), Given::Nothing)
+        }
+        Sequence::Setting(_) => Given::Nothing,
+    }
+}
+
+pub fn taking(s: Sequence) -> Taker
+    ensures { λ r. ⌜ r ≡ taking s ⌝ }
+{
+    match s {
+        Sequence::Idle => Taker::Nothing,
+        Sequence::Columns(_) => Taker::Nothing,
+        Sequence::Rows(_) => Taker::Nothing,
+        Sequence::Single(_) => Taker::Nothing,
+        Sequence::Due(_) => Taker::Nothing,
+        Sequence::Filling(k) => Taker::Program(k),
+        Sequence::Moving(_) => Taker::Nothing,
+        Sequence::Setting(k) => Taker::Feature(k),
+    }
+}
+
+// The second command of this byte, with the addresses that the sequence has.
+pub fn ended_by(v: u8, column: Column, row: Row, rowed: bool) -> Ender
+    ensures { λ r. ⌜ r ≡ endedBy v column row rowed ⌝ }
+{
+    match second_of(v) {
+        SecondFound::Nothing => Ender::Nothing,
+        SecondFound::Found(second) => {
+            let ended = Ended {
+                second,
+                column,
+                row,
+                rowed,
+            };
+            Ender::By(ended)
+        }
+    }
+}
+
+pub fn ending(s: Sequence, v: u8) -> Ender
+    ensures { λ r. ⌜ r ≡ ending s v ⌝ }
+{
+    match s {
+        Sequence::Idle => Ender::Nothing,
+        Sequence::Columns(_) => Ender::Nothing,
+        Sequence::Rows(_) => Ender::Nothing,
+        Sequence::Single(_) => Ender::Nothing,
+        Sequence::Due(k) => {
+            let f = k.first;
+            let column = k.column;
+            let row = k.row;
+            let ended = ended_by(v, column, row, takes_row(f));
+            pick_ending(v == end_of(f), ended, Ender::Nothing)
+        }
+        Sequence::Filling(k) => {
+            let column = k.at;
+            let row = k.row;
+            let ended = ended_by(v, column, row, true);
+            pick_ending((v == 0x10) | (v == 0x85), ended, Ender::Nothing)
+        }
+        Sequence::Moving(_) => Ender::Nothing,
+        Sequence::Setting(_) => Ender::Nothing,
+    }
+}
