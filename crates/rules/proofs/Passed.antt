@@ -11,16 +11,16 @@ use Rattle.target.specs.declared.Target.{Target}
 use Rattle.target.specs.declared.Refusal.{Refusal}
 use Rattle.target.specs.declared.Verdict.{Verdict}
 use Rattle.target.specs.declared.Verdict.the-variants.{Accepted}
-use Rattle.rules.specs.Rules.{unknown, beforeReset, misplaced, outOfRange, lunWorks, othersBusy, lineLow, pastEnd, notOffered, notWorking, lineHeld, verdict}
+use Rattle.rules.specs.Rules.{unknown, beforeReset, misplaced, outOfRange, lunWorks, othersBusy, lineLow, pastEnd, notOffered, notWorking, lineHeld, rules, verdict}
 
 pub record Passed (t : Target) (e : Event) : Type 0 where
   pub rule-12 : badRecord e ≡ false
   pub rule-2 : beforeReset (t .seen) e ≡ false
-  pub rule-1 : unknown (t .options) e ≡ false
+  pub rule-1 : unknown (t .words) e ≡ false
   pub rule-3 : misplaced (t .decoder) e ≡ false
   pub rule-6 : othersBusy (t .luns) (t .selected) e ≡ false
   pub rule-4 : outOfRange (t .geometry) (t .decoder .sequence) e ≡ false
-  pub rule-9 : notOffered (t .options) (t .decoder .sequence) e ≡ false
+  pub rule-9 : notOffered (t .words) (t .decoder .sequence) e ≡ false
   pub rule-5 : lunWorks (t .geometry) (t .luns) (t .selected) (t .decoder) e ≡ false
   pub rule-7 : lineLow (t .high) e ≡ false
   pub rule-8 : pastEnd (t .geometry) (t .decoder) e ≡ false
@@ -33,7 +33,7 @@ passed true r v h = let z : _≡_ {A = ℕ} 0 1 = cc in absurd (omega arith)
 passed false r v h = (refl, h)
 
 pub all-passed : (t : Target) (e : Event) → verdict t e ≡ Accepted → Passed t e
-unfolding verdict
+unfolding verdict rules
 all-passed t e h =
     let p12 = passed _ _ _ h in
     let p2 = passed _ _ _ (p12 .1) in

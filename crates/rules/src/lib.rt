@@ -5,42 +5,57 @@ use target::Event;
 use target::First;
 use target::Geometry;
 use target::Luns;
-use target::Options;
 use target::Output;
 use target::Refusal;
 use target::Row;
 use target::Sequence;
 use target::Target;
 use target::Verdict;
+use target::Words;
 use target::address::block_exists;
-use target::address::column_from;
 use target::address::lun_exists;
 use target::address::lun_of;
 use target::address::row_exists;
-use target::address::row_from;
+use target::bits::has_feature;
+use target::commands::FirstFound;
+use target::commands::Looks;
+use target::commands::SecondFound;
+use target::commands::Waits;
+use target::commands::first_of;
 use target::commands::is_known;
+use target::commands::knows_address;
+use target::commands::looks_of;
+use target::commands::needs_ready;
 use target::commands::offered;
+use target::commands::second_of;
+use target::commands::second_row;
+use target::commands::waits_for;
 use target::events::bad_record;
 use target::events::is_bus;
 use target::events::is_reset;
 use target::picks::or_else;
 use target::picks::pick_bool;
-use target::place::any_works;
 use target::place::has_output;
 use target::place::is_open;
-use target::place::others_work;
 use target::place::takes_address;
 use target::place::takes_command;
 use target::place::takes_data;
-use target::place::works;
+use target::records::any_works;
+use target::records::others_work;
+use target::records::works;
+use target::sizes::page_size;
+use target::views::Given;
+use target::views::Taker;
+use target::views::completed;
+use target::views::taking;
 ghost use mathlib.Core.Path.{_≡_};
-ghost use Rattle.rules.specs.Rules.{unknown, beforeReset, fits, misplaced, rowFits, addressFits, beyond, outOfRange, isLook, isJump, namesWorking, outputWorks, lunWorks, othersBusy, lineLow, dataEnded, outputEnded, pastEnd, unoffered, notOffered, notWorking, lineHeld, verdict};
+ghost use Rattle.rules.specs.Rules.{unknown, beforeReset, fits, misplaced, exists, rowFits, beyond, outOfRange, namesWorking, outputWorks, lunWorks, workFor, othersWorkFor, othersBusy, isGuarded, lineLow, dataEnded, outputEnded, pastEnd, unoffered, notOffered, notWorking, lineHeld, verdict};
 
 // Rule 1.
-pub fn unknown(o: Options, e: Event) -> bool
-    ensures { λ b. ⌜ b ≡ unknown o e ⌝ }
+pub fn unknown(w: Words, e: Event) -> bool
+    ensures { λ b. ⌜ b ≡ unknown w e ⌝ }
 {
-    (e.kind == 0) & !(is_known(e.value) & offered(o, e.value))
+    (e.kind == 0) & !(is_known(e.value) & offered(w, e.value))
 }
 
 // Rule 2.
@@ -55,9 +70,16 @@ pub fn fits(d: Decoder, e: Event) -> bool
 {
     let s = d.sequence;
     let o = d.output;
-    let n = pick_bool(e.kind == 2, takes_data(s), has_output(o));
-    let n = pick_bool(e.kind == 1, takes_address(s), n);
-    pick_bool(e.kind == 0, takes_command(s, e.value), n)
+    if e.kind == 0 {
+        return takes_command(s, e.value);
+    }
+    if e.kind == 1 {
+        return takes_address(s);
+    }
+    if e.kind == 2 {
+        return takes_data(s);
+    }
+    has_output(o)
 }
 
 // Rule 3.
@@ -67,70 +89,41 @@ pub fn misplaced(d: Decoder, e: Event) -> bool
     is_bus(e) & !fits(d, e)
 }
 
+pub fn exists(g: Geometry, l: Looks, r: Row) -> bool
+    ensures { λ b. ⌜ b ≡ exists g l r ⌝ }
+{
+    match l {
+        Looks::Nothing => true,
+        Looks::Lun => lun_exists(g, r),
+        Looks::Block => block_exists(g, r),
+        Looks::Page => row_exists(g, r),
+    }
+}
+
 pub fn row_fits(g: Geometry, f: First, r: Row) -> bool
     ensures { λ b. ⌜ b ≡ rowFits g f r ⌝ }
 {
-    match f {
-        First::Read => row_exists(g, r),
-        First::Jump => true,
-        First::Fetch => lun_exists(g, r),
-        First::Erase => block_exists(g, r),
-        First::Status => true,
-        First::Look => lun_exists(g, r),
-        First::Program => row_exists(g, r),
-        First::Identify => true,
-        First::Parameters => true,
-        First::GetFeature => true,
-        First::SetFeature => true,
-    }
+    exists(g, looks_of(f), r)
 }
 
-pub fn address_fits(f: First, v: u8) -> bool
-    ensures { λ b. ⌜ b ≡ addressFits f v ⌝ }
+pub fn beyond(g: Geometry, k: Given) -> bool
+    ensures { λ b. ⌜ b ≡ beyond g k ⌝ }
 {
-    match f {
-        First::Read => true,
-        First::Jump => true,
-        First::Fetch => true,
-        First::Erase => true,
-        First::Status => true,
-        First::Look => true,
-        First::Program => true,
-        First::Identify => (v == 0x00) | (v == 0x20),
-        First::Parameters => v == 0x00,
-        First::GetFeature => v == 0x01,
-        First::SetFeature => v == 0x01,
-    }
-}
-
-pub fn beyond(g: Geometry, s: Sequence, v: u8) -> bool
-    ensures { λ b. ⌜ b ≡ beyond g s v ⌝ }
-{
-    match s {
-        Sequence::Idle => false,
-        Sequence::Columns { first: _, got, low } => {
-            let c = column_from(low, v);
-            (got == 1) & (g.page <= c.0)
+    match k {
+        Given::Nothing => false,
+        Given::Column(k) => {
+            let c = k.column;
+            page_size(g) <= c.0
         }
-        Sequence::Rows {
-            first,
-            column: _,
-            got,
-            low,
-            mid,
-        } => (got == 2) & !row_fits(g, first, row_from(low, mid, v)),
-        Sequence::Single { first } => !address_fits(first, v),
-        Sequence::Due {
-            first: _,
-            column: _,
-            row: _,
-        } => false,
-        Sequence::Filling { row: _, at: _ } => false,
-        Sequence::Moving { row: _, got, low } => {
-            let c = column_from(low, v);
-            (got == 1) & (g.page <= c.0)
+        Given::Row(k) => {
+            let f = k.first;
+            let r = k.row;
+            !row_fits(g, f, r)
         }
-        Sequence::Setting { got: _, value: _ } => false,
+        Given::Single(k) => {
+            let f = k.first;
+            !knows_address(f, k.value)
+        }
     }
 }
 
@@ -138,73 +131,21 @@ pub fn beyond(g: Geometry, s: Sequence, v: u8) -> bool
 pub fn out_of_range(g: Geometry, s: Sequence, e: Event) -> bool
     ensures { λ b. ⌜ b ≡ outOfRange g s e ⌝ }
 {
-    (e.kind == 1) & beyond(g, s, e.value)
+    (e.kind == 1) & beyond(g, completed(s, e.value))
 }
 
-pub fn is_look(f: First) -> bool
-    ensures { λ b. ⌜ b ≡ isLook f ⌝ }
+pub fn names_working(g: Geometry, luns: Luns, selected: usize, k: Given) -> bool
+    ensures { λ b. ⌜ b ≡ namesWorking g luns selected k ⌝ }
 {
-    match f {
-        First::Read => false,
-        First::Jump => false,
-        First::Fetch => false,
-        First::Erase => false,
-        First::Status => false,
-        First::Look => true,
-        First::Program => false,
-        First::Identify => false,
-        First::Parameters => false,
-        First::GetFeature => false,
-        First::SetFeature => false,
-    }
-}
-
-pub fn is_jump(f: First) -> bool
-    ensures { λ b. ⌜ b ≡ isJump f ⌝ }
-{
-    match f {
-        First::Read => false,
-        First::Jump => true,
-        First::Fetch => false,
-        First::Erase => false,
-        First::Status => false,
-        First::Look => false,
-        First::Program => false,
-        First::Identify => false,
-        First::Parameters => false,
-        First::GetFeature => false,
-        First::SetFeature => false,
-    }
-}
-
-pub fn names_working(g: Geometry, luns: Luns, selected: usize, s: Sequence, v: u8) -> bool
-    ensures { λ b. ⌜ b ≡ namesWorking g luns selected s v ⌝ }
-{
-    match s {
-        Sequence::Idle => false,
-        Sequence::Columns { first, got, low: _ } => is_jump(first)
-            & (got == 1)
-            & works(luns, selected),
-        Sequence::Rows {
-            first,
-            column: _,
-            got,
-            low,
-            mid,
-        } => !is_look(first) & (got == 2) & works(luns, lun_of(g, row_from(low, mid, v))),
-        Sequence::Single { first: _ } => false,
-        Sequence::Due {
-            first: _,
-            column: _,
-            row: _,
-        } => false,
-        Sequence::Filling { row: _, at: _ } => false,
-        Sequence::Moving {
-            row: _,
-            got: _,
-            low: _,
-        } => false,
-        Sequence::Setting { got: _, value: _ } => false,
+    match k {
+        Given::Nothing => false,
+        Given::Column(k) => k.asks & works(luns, selected),
+        Given::Row(k) => {
+            let f = k.first;
+            let r = k.row;
+            needs_ready(f) & works(luns, lun_of(g, r))
+        }
+        Given::Single(_) => false,
     }
 }
 
@@ -228,56 +169,65 @@ pub fn lun_works(g: Geometry, luns: Luns, selected: usize, d: Decoder, e: Event)
 {
     let s = d.sequence;
     let o = d.output;
-    ((e.kind == 1) & names_working(g, luns, selected, s, e.value))
+    ((e.kind == 1) & names_working(g, luns, selected, completed(s, e.value)))
         | ((e.kind == 3) & output_works(luns, o))
+}
+
+pub fn work_for(luns: Luns, selected: usize, w: Waits) -> bool
+    ensures { λ b. ⌜ b ≡ workFor luns selected w ⌝ }
+{
+    match w {
+        Waits::Nobody => false,
+        Waits::Others => others_work(luns, selected),
+        Waits::All => any_works(luns),
+    }
+}
+
+pub fn others_work_for(luns: Luns, selected: usize, k: FirstFound) -> bool
+    ensures { λ b. ⌜ b ≡ othersWorkFor luns selected k ⌝ }
+{
+    match k {
+        FirstFound::Nothing => false,
+        FirstFound::Found(f) => work_for(luns, selected, waits_for(f)),
+    }
 }
 
 // Rule 6.
 pub fn others_busy(luns: Luns, selected: usize, e: Event) -> bool
     ensures { λ b. ⌜ b ≡ othersBusy luns selected e ⌝ }
 {
-    let v = e.value;
-    let whole = (v == 0x90) | (v == 0xec) | (v == 0xee) | (v == 0xef);
-    (e.kind == 0) & ((whole & any_works(luns)) | ((v == 0x70) & others_work(luns, selected)))
+    (e.kind == 0) & others_work_for(luns, selected, first_of(e.value))
+}
+
+pub fn is_guarded(k: SecondFound) -> bool
+    ensures { λ b. ⌜ b ≡ isGuarded k ⌝ }
+{
+    match k {
+        SecondFound::Nothing => false,
+        SecondFound::Found(s) => {
+            let row = second_row(s);
+            row.guarded
+        }
+    }
 }
 
 // Rule 7.
 pub fn line_low(high: bool, e: Event) -> bool
     ensures { λ b. ⌜ b ≡ lineLow high e ⌝ }
 {
-    (e.kind == 0) & ((e.value == 0x10) | (e.value == 0xd0)) & !high
+    (e.kind == 0) & is_guarded(second_of(e.value)) & !high
 }
 
-pub fn data_ended(g: Geometry, s: Sequence) -> bool
-    ensures { λ b. ⌜ b ≡ dataEnded g s ⌝ }
+pub fn data_ended(g: Geometry, k: Taker) -> bool
+    ensures { λ b. ⌜ b ≡ dataEnded g k ⌝ }
 {
-    match s {
-        Sequence::Idle => false,
-        Sequence::Columns {
-            first: _,
-            got: _,
-            low: _,
-        } => false,
-        Sequence::Rows {
-            first: _,
-            column: _,
-            got: _,
-            low: _,
-            mid: _,
-        } => false,
-        Sequence::Single { first: _ } => false,
-        Sequence::Due {
-            first: _,
-            column: _,
-            row: _,
-        } => false,
-        Sequence::Filling { row: _, at } => g.page <= at.0,
-        Sequence::Moving {
-            row: _,
-            got: _,
-            low: _,
-        } => false,
-        Sequence::Setting { got: _, value: _ } => false,
+    match k {
+        Taker::Nothing => false,
+        Taker::Program(k) => {
+            let at = k.at;
+            page_size(g) <= at.0
+        }
+        Taker::Feature(_) => false,
     }
 }
 
@@ -286,7 +236,7 @@ pub fn output_ended(g: Geometry, o: Output) -> bool
 {
     match o {
         Output::Nothing => false,
-        Output::Register { lun: _, column } => g.page <= column.0,
+        Output::Register { lun: _, column } => page_size(g) <= column.0,
         Output::Parameters { at } => 768 <= at,
         Output::Status { lun: _ } => false,
         Output::Ids { at } => 2 <= at,
@@ -301,47 +251,24 @@ pub fn past_end(g: Geometry, d: Decoder, e: Event) -> bool
 {
     let s = d.sequence;
     let o = d.output;
-    ((e.kind == 2) & data_ended(g, s)) | ((e.kind == 3) & output_ended(g, o))
+    ((e.kind == 2) & data_ended(g, taking(s))) | ((e.kind == 3) & output_ended(g, o))
 }
 
-pub fn unoffered(o: Options, s: Sequence, v: u8) -> bool
-    ensures { λ b. ⌜ b ≡ unoffered o s v ⌝ }
+pub fn unoffered(w: Words, k: Taker, v: u8) -> bool
+    ensures { λ b. ⌜ b ≡ unoffered w k v ⌝ }
 {
-    match s {
-        Sequence::Idle => false,
-        Sequence::Columns {
-            first: _,
-            got: _,
-            low: _,
-        } => false,
-        Sequence::Rows {
-            first: _,
-            column: _,
-            got: _,
-            low: _,
-            mid: _,
-        } => false,
-        Sequence::Single { first: _ } => false,
-        Sequence::Due {
-            first: _,
-            column: _,
-            row: _,
-        } => false,
-        Sequence::Filling { row: _, at: _ } => false,
-        Sequence::Moving {
-            row: _,
-            got: _,
-            low: _,
-        } => false,
-        Sequence::Setting { got, value: _ } => !((v == 0) | ((got == 0) & (v == 0x40) & o.clear)),
+    match k {
+        Taker::Nothing => false,
+        Taker::Program(_) => false,
+        Taker::Feature(k) => !((v == 0) | ((k.got == 0) & (v == 0x40) & has_feature(w, 8))),
     }
 }
 
 // Rule 9.
-pub fn not_offered(o: Options, s: Sequence, e: Event) -> bool
-    ensures { λ b. ⌜ b ≡ notOffered o s e ⌝ }
+pub fn not_offered(w: Words, s: Sequence, e: Event) -> bool
+    ensures { λ b. ⌜ b ≡ notOffered w s e ⌝ }
 {
-    (e.kind == 2) & unoffered(o, s, e.value)
+    (e.kind == 2) & unoffered(w, taking(s), e.value)
 }
 
 // Rule 10.
@@ -366,11 +293,11 @@ fn decide_command(t: Target, v: u8) -> Verdict
     let e = Event { kind: 0, value: v };
     let luns = t.luns;
     let d = t.decoder;
-    let o = t.options;
+    let w = t.words;
     let n = or_else(line_low(t.high, e), Refusal::Protected, Verdict::Accepted);
     let n = or_else(others_busy(luns, t.selected, e), Refusal::OthersWork, n);
     let n = or_else(misplaced(d, e), Refusal::Misplaced, n);
-    let n = or_else(unknown(o, e), Refusal::Unknown, n);
+    let n = or_else(unknown(w, e), Refusal::Unknown, n);
     or_else(before_reset(t.seen, e), Refusal::BeforeReset, n)
 }
 
@@ -399,11 +326,11 @@ fn decide_in(t: Target, v: u8) -> Verdict
 {
     let e = Event { kind: 2, value: v };
     let g = t.geometry;
-    let o = t.options;
+    let w = t.words;
     let d = t.decoder;
     let s = d.sequence;
     let n = or_else(past_end(g, d, e), Refusal::PastEnd, Verdict::Accepted);
-    let n = or_else(not_offered(o, s, e), Refusal::NotOffered, n);
+    let n = or_else(not_offered(w, s, e), Refusal::NotOffered, n);
     let n = or_else(misplaced(d, e), Refusal::Misplaced, n);
     or_else(before_reset(t.seen, e), Refusal::BeforeReset, n)
 }

@@ -7,112 +7,64 @@ use Rattle.rules.proofs.beyond.Tie as tie
 enum-told : tie.Need-enum-told
 enum-told c = search needs
 
-enum-known-s : tie.Need-enum-known-s
-enum-known-s c = search needs
+enum-known-k : tie.Need-enum-known-k
+enum-known-k c = search needs
 
-column-from-requires : tie.Need-column-from-requires
-column-from-requires c κs = search needs
+page-size-requires : tie.Need-page-size-requires
+page-size-requires c κs = search needs
 
-enum-known-s-2 : tie.Need-enum-known-s-2
-enum-known-s-2 c = search needs
-
-row-from-requires : tie.Need-row-from-requires
-row-from-requires c κs = search needs
+enum-known-k-2 : tie.Need-enum-known-k-2
+enum-known-k-2 c = search needs
 
 row-fits-requires : tie.Need-row-fits-requires
 row-fits-requires c κs = search needs
 
-enum-known-s-3 : tie.Need-enum-known-s-3
-enum-known-s-3 c = search needs
+enum-known-k-3 : tie.Need-enum-known-k-3
+enum-known-k-3 c = search needs
 
-address-fits-requires : tie.Need-address-fits-requires
-address-fits-requires c κs = search needs
-
-enum-told-2 : tie.Need-enum-told-2
-enum-told-2 c = search needs
-
-enum-told-3 : tie.Need-enum-told-3
-enum-told-3 c = search needs
-
-enum-known-s-4 : tie.Need-enum-known-s-4
-enum-known-s-4 c = search needs
-
-column-from-requires-2 : tie.Need-column-from-requires-2
-column-from-requires-2 c κs = search needs
-
-enum-told-4 : tie.Need-enum-told-4
-enum-told-4 c = search needs
+knows-address-requires : tie.Need-knows-address-requires
+knows-address-requires c κs = search needs
 
 returns : tie.Need-returns
 returns c = search needs
 
 returns-2 : tie.Need-returns-2
 returns-2 c =
-    let c2 = c .before .before in
-    let c4 = c2 .before .before in
+    let c1 = c .before in
+    let c4 = c1 .before .before .before in
     rw (
-      c2 .column-from .ensures,
-      c4 .s .given .1,
+      c1 .page-size .ensures,
+      c4 .k .given .1,
     )
 
 returns-3 : tie.Need-returns-3
 returns-3 c =
-    let c1 = c .before in
-    let c3 = c1 .before .before in
+    let c3 = c .before .before .before in
     rw (
       c .row-fits .ensures,
-      c1 .row-from .ensures,
-      c3 .s2 .given .1,
+      c3 .k2 .given .1,
     )
 
 returns-4 : tie.Need-returns-4
 returns-4 c =
     let c2 = c .before .before in
     rw (
-      c .address-fits .ensures,
-      c2 .s3 .given .1,
+      c .knows-address .ensures,
+      c2 .k3 .given .1,
     )
-
-returns-5 : tie.Need-returns-5
-returns-5 c = search needs
-
-returns-6 : tie.Need-returns-6
-returns-6 c = search needs
-
-returns-7 : tie.Need-returns-7
-returns-7 c =
-    let c2 = c .before .before in
-    let c4 = c2 .before .before in
-    rw (
-      c2 .column-from2 .ensures,
-      c4 .s4 .given .1,
-    )
-
-returns-8 : tie.Need-returns-8
-returns-8 c = search needs
 
 pub beyond-spec : {M : Type 1} → statement M
 beyond-spec =
     tie.close
     (tie.spec
     enum-told
-    enum-known-s
-    column-from-requires
-    enum-known-s-2
-    row-from-requires
+    enum-known-k
+    page-size-requires
+    enum-known-k-2
     row-fits-requires
-    enum-known-s-3
-    address-fits-requires
-    enum-told-2
-    enum-told-3
-    enum-known-s-4
-    column-from-requires-2
-    enum-told-4
+    enum-known-k-3
+    knows-address-requires
     returns
     returns-2
     returns-3
-    returns-4
-    returns-5
-    returns-6
-    returns-7
-    returns-8)
+    returns-4)

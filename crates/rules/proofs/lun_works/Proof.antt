@@ -5,6 +5,9 @@ use borrow.Author.Needs.{needs}
 use Rattle.rules.proofs.lun_works.Statement.{statement}
 use Rattle.rules.proofs.lun_works.Tie as tie
 
+completed-requires : tie.Need-completed-requires
+completed-requires c κs = search needs
+
 names-working-requires : tie.Need-names-working-requires
 names-working-requires c κs = search needs
 
@@ -15,10 +18,13 @@ returns : tie.Need-returns
 unfolding lunWorks
 returns c =
     let c2 = c .before .before in
+    let c3 = c2 .before in
     rw (
       c .output-works .ensures,
       c2 .names-working .ensures,
+      c3 .completed .ensures,
     )
 
 pub lun-works-spec : {M : Type 1} → statement M
-lun-works-spec = tie.close (tie.spec names-working-requires output-works-requires returns)
+lun-works-spec =
+    tie.close (tie.spec completed-requires names-working-requires output-works-requires returns)

@@ -5,20 +5,20 @@ use borrow.Author.Needs.{needs}
 use Rattle.rules.proofs.others_busy.Statement.{statement}
 use Rattle.rules.proofs.others_busy.Tie as tie
 
-any-works-requires : tie.Need-any-works-requires
-any-works-requires c κs = search needs
+first-of-requires : tie.Need-first-of-requires
+first-of-requires c κs = search needs
 
-others-work-requires : tie.Need-others-work-requires
-others-work-requires c κs = search needs
+others-work-for-requires : tie.Need-others-work-for-requires
+others-work-for-requires c κs = search needs
 
 returns : tie.Need-returns
 unfolding othersBusy
 returns c =
     let c1 = c .before in
     rw (
-      c .others-work .ensures,
-      c1 .any-works .ensures,
+      c .others-work-for .ensures,
+      c1 .first-of .ensures,
     )
 
 pub others-busy-spec : {M : Type 1} → statement M
-others-busy-spec = tie.close (tie.spec any-works-requires others-work-requires returns)
+others-busy-spec = tie.close (tie.spec first-of-requires others-work-for-requires returns)

@@ -5,13 +5,20 @@ use borrow.Author.Needs.{needs}
 use Rattle.rules.proofs.out_of_range.Statement.{statement}
 use Rattle.rules.proofs.out_of_range.Tie as tie
 
+completed-requires : tie.Need-completed-requires
+completed-requires c κs = search needs
+
 beyond-requires : tie.Need-beyond-requires
 beyond-requires c κs = search needs
 
 returns : tie.Need-returns
 unfolding outOfRange
 returns c =
-    rw (c .beyond .ensures)
+    let c1 = c .before in
+    rw (
+      c .beyond .ensures,
+      c1 .completed .ensures,
+    )
 
 pub out-of-range-spec : {M : Type 1} → statement M
-out-of-range-spec = tie.close (tie.spec beyond-requires returns)
+out-of-range-spec = tie.close (tie.spec completed-requires beyond-requires returns)

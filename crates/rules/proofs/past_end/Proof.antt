@@ -5,6 +5,9 @@ use borrow.Author.Needs.{needs}
 use Rattle.rules.proofs.past_end.Statement.{statement}
 use Rattle.rules.proofs.past_end.Tie as tie
 
+taking-requires : tie.Need-taking-requires
+taking-requires c κs = search needs
+
 data-ended-requires : tie.Need-data-ended-requires
 data-ended-requires c κs = search needs
 
@@ -15,10 +18,13 @@ returns : tie.Need-returns
 unfolding pastEnd
 returns c =
     let c2 = c .before .before in
+    let c3 = c2 .before in
     rw (
       c .output-ended .ensures,
       c2 .data-ended .ensures,
+      c3 .taking .ensures,
     )
 
 pub past-end-spec : {M : Type 1} → statement M
-past-end-spec = tie.close (tie.spec data-ended-requires output-ended-requires returns)
+past-end-spec =
+    tie.close (tie.spec taking-requires data-ended-requires output-ended-requires returns)

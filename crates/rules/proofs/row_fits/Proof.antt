@@ -4,140 +4,19 @@ use borrow.Author.Needs.{needs}
 use Rattle.rules.proofs.row_fits.Statement.{statement}
 use Rattle.rules.proofs.row_fits.Tie as tie
 
-enum-told : tie.Need-enum-told
-enum-told c = search needs
+looks-of-requires : tie.Need-looks-of-requires
+looks-of-requires c κs = search needs
 
-row-exists-requires : tie.Need-row-exists-requires
-row-exists-requires c κs = search needs
-
-enum-told-2 : tie.Need-enum-told-2
-enum-told-2 c = search needs
-
-enum-told-3 : tie.Need-enum-told-3
-enum-told-3 c = search needs
-
-lun-exists-requires : tie.Need-lun-exists-requires
-lun-exists-requires c κs = search needs
-
-enum-told-4 : tie.Need-enum-told-4
-enum-told-4 c = search needs
-
-block-exists-requires : tie.Need-block-exists-requires
-block-exists-requires c κs = search needs
-
-enum-told-5 : tie.Need-enum-told-5
-enum-told-5 c = search needs
-
-enum-told-6 : tie.Need-enum-told-6
-enum-told-6 c = search needs
-
-lun-exists-requires-2 : tie.Need-lun-exists-requires-2
-lun-exists-requires-2 c κs = search needs
-
-enum-told-7 : tie.Need-enum-told-7
-enum-told-7 c = search needs
-
-row-exists-requires-2 : tie.Need-row-exists-requires-2
-row-exists-requires-2 c κs = search needs
-
-enum-told-8 : tie.Need-enum-told-8
-enum-told-8 c = search needs
-
-enum-told-9 : tie.Need-enum-told-9
-enum-told-9 c = search needs
-
-enum-told-10 : tie.Need-enum-told-10
-enum-told-10 c = search needs
-
-enum-told-11 : tie.Need-enum-told-11
-enum-told-11 c = search needs
+exists-requires : tie.Need-exists-requires
+exists-requires c κs = search needs
 
 returns : tie.Need-returns
 returns c =
     let c1 = c .before in
     rw (
-      c .row-exists .ensures,
-      c1 .enum-told .given .1,
+      c .exists .ensures,
+      c1 .looks-of .ensures,
     )
-
-returns-2 : tie.Need-returns-2
-returns-2 c = search needs
-
-returns-3 : tie.Need-returns-3
-returns-3 c =
-    let c1 = c .before in
-    rw (
-      c .lun-exists .ensures,
-      c1 .enum-told3 .given .1,
-    )
-
-returns-4 : tie.Need-returns-4
-returns-4 c =
-    let c1 = c .before in
-    rw (
-      c .block-exists .ensures,
-      c1 .enum-told4 .given .1,
-    )
-
-returns-5 : tie.Need-returns-5
-returns-5 c = search needs
-
-returns-6 : tie.Need-returns-6
-returns-6 c =
-    let c1 = c .before in
-    rw (
-      c .lun-exists2 .ensures,
-      c1 .enum-told6 .given .1,
-    )
-
-returns-7 : tie.Need-returns-7
-returns-7 c =
-    let c1 = c .before in
-    rw (
-      c .row-exists2 .ensures,
-      c1 .enum-told7 .given .1,
-    )
-
-returns-8 : tie.Need-returns-8
-returns-8 c = search needs
-
-returns-9 : tie.Need-returns-9
-returns-9 c = search needs
-
-returns-10 : tie.Need-returns-10
-returns-10 c = search needs
-
-returns-11 : tie.Need-returns-11
-returns-11 c = search needs
 
 pub row-fits-spec : {M : Type 1} → statement M
-row-fits-spec =
-    tie.close
-    (tie.spec
-    enum-told
-    row-exists-requires
-    enum-told-2
-    enum-told-3
-    lun-exists-requires
-    enum-told-4
-    block-exists-requires
-    enum-told-5
-    enum-told-6
-    lun-exists-requires-2
-    enum-told-7
-    row-exists-requires-2
-    enum-told-8
-    enum-told-9
-    enum-told-10
-    enum-told-11
-    returns
-    returns-2
-    returns-3
-    returns-4
-    returns-5
-    returns-6
-    returns-7
-    returns-8
-    returns-9
-    returns-10
-    returns-11)
+row-fits-spec = tie.close (tie.spec looks-of-requires exists-requires returns)
