@@ -7,16 +7,21 @@ use lib.Dec.{eqb, leb}
 use Rattle.slices.specs.Cells.{splice, part, andBytes}
 use Rattle.target.specs.Pick.{pick}
 use Rattle.target.specs.Address.{pageOf, blockOf, lunOf}
-use Rattle.target.specs.Place.{works, failed}
+use Rattle.target.specs.Sizes.{pageSize}
+use Rattle.target.specs.Commands.{secondRow}
+use Rattle.target.specs.Views.{ending}
+use Rattle.target.specs.Luns.{works, failed}
 use Rattle.target.specs.declared.Column.{Column}
 use Rattle.target.specs.declared.Row.{Row}
 use Rattle.target.specs.declared.Geometry.{Geometry}
 use Rattle.target.specs.declared.Event.{Event}
 use Rattle.target.specs.declared.Target.{Target}
-use Rattle.target.specs.declared.First.{First}
-use Rattle.target.specs.declared.First.the-variants.{Read, Jump, Fetch, Erase, Status, Look, Program, Identify, Parameters, GetFeature, SetFeature}
+use Rattle.target.specs.declared.Findings.{Findings}
+use Rattle.target.specs.declared.commands.Act.{Act}
+use Rattle.target.specs.declared.commands.Act.the-variants as act
+use Rattle.target.specs.declared.views.Ender.{Ender}
+use Rattle.target.specs.declared.views.Ender.the-variants as ender
 use Rattle.target.specs.declared.Sequence.{Sequence}
-use Rattle.target.specs.declared.Sequence.the-variants.{Idle, Columns, Rows, Single, Due, Filling, Moving, Setting}
 use Rattle.target.specs.declared.Output.{Output}
 use Rattle.target.specs.declared.Output.the-variants as output
 use Rattle.target.specs.declared.Work.{Work}
@@ -33,11 +38,11 @@ pageIndex g r = blockIndex g r * g .pages + pageOf g r
 unfoldable pub registersAfter : Geometry → Work → List ℕ → List ℕ → List ℕ
 registersAfter g work.Nothing array registers = registers
 registersAfter g work.ClearAll array registers = replicate (length registers) 0xff
-registersAfter g (work.ClearOne l) array registers = splice registers (l * g .page) (g .page) (replicate (g .page) 0xff)
+registersAfter g (work.ClearOne l) array registers = splice registers (l * pageSize g) (pageSize g) (replicate (pageSize g) 0xff)
 registersAfter g (work.Load r) array registers =
-    splice registers (lunOf g r * g .page) (g .page) (part array (pageIndex g r * g .page) (g .page))
+    splice registers (lunOf g r * pageSize g) (pageSize g) (part array (pageIndex g r * pageSize g) (pageSize g))
 registersAfter g (work.Put l c v) array registers =
-    splice registers (l * g .page) (g .page) (set (part registers (l * g .page) (g .page)) (c .0) v)
+    splice registers (l * pageSize g) (pageSize g) (set (part registers (l * pageSize g) (pageSize g)) (c .0) v)
 registersAfter g (work.Program r) array registers = registers
 registersAfter g (work.Erase r) array registers = registers
 
@@ -49,10 +54,10 @@ arrayAfter g (work.ClearOne l) array registers = array
 arrayAfter g (work.Load r) array registers = array
 arrayAfter g (work.Put l c v) array registers = array
 arrayAfter g (work.Program r) array registers =
-    splice array (pageIndex g r * g .page) (g .page)
-    (andBytes (part array (pageIndex g r * g .page) (g .page)) (part registers (lunOf g r * g .page) (g .page)))
+    splice array (pageIndex g r * pageSize g) (pageSize g)
+    (andBytes (part array (pageIndex g r * pageSize g) (pageSize g)) (part registers (lunOf g r * pageSize g) (pageSize g)))
 arrayAfter g (work.Erase r) array registers =
-    splice array (blockIndex g r * g .pages * g .page) (g .pages * g .page) (replicate (g .pages * g .page) 0xff)
+    splice array (blockIndex g r * g .pages * pageSize g) (g .pages * pageSize g) (replicate (g .pages * pageSize g) 0xff)
 
 -- the program counts after work: 10h makes the page's rise by one, D0h sets the block's to 0
 unfoldable pub countsAfter : Geometry → Work → List ℕ → List ℕ
@@ -72,33 +77,22 @@ blockBad g r flags = not (eqb (getD flags (blockIndex g r) 0) 0)
 unfoldable pub pageFull : Geometry → Row → List ℕ → Bool
 pageFull g r counts = leb (g .programs) (getD counts (pageIndex g r) 0)
 
--- D0h on a factory bad block
-abbrev pub dueSpoilt : Geometry → First → Row → List ℕ → Bool
-dueSpoilt g Read r flags = false
-dueSpoilt g Jump r flags = false
-dueSpoilt g Fetch r flags = false
-dueSpoilt g Erase r flags = blockBad g r flags
-dueSpoilt g Status r flags = false
-dueSpoilt g Look r flags = false
-dueSpoilt g Program r flags = false
-dueSpoilt g Identify r flags = false
-dueSpoilt g Parameters r flags = false
-dueSpoilt g GetFeature r flags = false
-dueSpoilt g SetFeature r flags = false
+-- 10h does not proceed on a bad block or a full page, D0h not on a bad block; a read always does
+abbrev pub proceeds : Geometry → Act → Row → List ℕ → List ℕ → Bool
+proceeds g act.Nothing r counts flags = true
+proceeds g act.Load r counts flags = true
+proceeds g act.Program r counts flags = not (blockBad g r flags || pageFull g r counts)
+proceeds g act.Erase r counts flags = not (blockBad g r flags)
+proceeds g act.Move r counts flags = true
 
--- the command does not proceed: 10h on a bad block or a full page, D0h on a bad block
-abbrev pub commandSpoilt : Geometry → Sequence → List ℕ → List ℕ → Bool
-commandSpoilt g Idle counts flags = false
-commandSpoilt g (Columns f got low) counts flags = false
-commandSpoilt g (Rows f c got low mid) counts flags = false
-commandSpoilt g (Single f) counts flags = false
-commandSpoilt g (Due f c r) counts flags = dueSpoilt g f r flags
-commandSpoilt g (Filling r at) counts flags = blockBad g r flags || pageFull g r counts
-commandSpoilt g (Moving r got low) counts flags = false
-commandSpoilt g (Setting got value) counts flags = false
+abbrev pub endedFindings : Geometry → Ender → List ℕ → List ℕ → Findings
+endedFindings g ender.Nothing counts flags = record { proceeds = true }
+endedFindings g (ender.By k) counts flags = record { proceeds = proceeds g (secondRow (k .second) .act) (k .row) counts flags }
 
-unfoldable pub spoiltBy : Geometry → Sequence → Event → List ℕ → List ℕ → Bool
-spoiltBy g s e counts flags = eqb (e .kind) 0 && commandSpoilt g s counts flags
+-- what the buffers say of the event that comes
+unfoldable pub findings : Geometry → Sequence → Event → List ℕ → List ℕ → Findings
+findings g s e counts flags =
+    pick (eqb (e .kind) 0) (endedFindings g (ending s (e .value)) counts flags) (record { proceeds = true })
 
 -- 128 if the line is high, plus 96 if ready, plus FAIL if ready
 unfoldable pub statusOf : Target → ℕ → ℕ
@@ -110,7 +104,7 @@ statusOf t l =
 -- the byte that a data-out cycle gives
 unfoldable pub outputByte : Target → List ℕ → List ℕ → Output → ℕ
 outputByte t params registers output.Nothing = 0
-outputByte t params registers (output.Register l c) = getD registers (l * t .geometry .page + c .0) 0
+outputByte t params registers (output.Register l c) = getD registers (l * pageSize (t .geometry) + c .0) 0
 outputByte t params registers (output.Parameters at) = getD params (at % 256) 0
 outputByte t params registers (output.Status l) = statusOf t l
 outputByte t params registers (output.Ids at) = pick (eqb at 0) (t .ids .maker) (t .ids .device)

@@ -6,10 +6,12 @@ use Prim.Native.Nat.{ℕ, _+_, _*_, _<_}
 use lib.ListN.{length, getD}
 use lib.Dec.{eqb}
 use Rattle.target.specs.Pick.{pick}
+use Rattle.target.specs.Sizes.{pageSize}
 use Rattle.target.specs.Address.{lunOf, blockExists, rowExists}
 use Rattle.target.specs.declared.Event.{Event}
 use Rattle.target.specs.declared.Geometry.{Geometry}
 use Rattle.target.specs.declared.Target.{Target}
+use Rattle.target.specs.declared.Findings.{Findings}
 use Rattle.target.specs.declared.Work.{Work}
 use Rattle.target.specs.declared.Work.the-variants as work
 use Rattle.target.specs.declared.Refusal.the-variants.{NotUsable}
@@ -18,9 +20,9 @@ use Rattle.target.specs.declared.Verdict.the-variants as verdicts
 use Rattle.target.specs.declared.Reply.{Reply}
 use Rattle.target.specs.declared.Reply.the-variants.{Accepted, Byte, Refused}
 use Rattle.rules.specs.Rules.{verdict}
-use Rattle.effects.specs.After.{targetAfter, targetRefused, workOf}
+use Rattle.effects.specs.Effects.{targetAfter, targetRefused, workOf}
 use Rattle.step.specs.Usable.{usable}
-use Rattle.step.specs.Buffers.{pageIndex, spoiltBy, registersAfter, arrayAfter, countsAfter, outputByte}
+use Rattle.step.specs.Buffers.{pageIndex, findings, registersAfter, arrayAfter, countsAfter, outputByte}
 
 -- the lent buffers that an event may change
 pub record Buffers : Type 0 where
@@ -45,17 +47,17 @@ worked g w b = record {
   counts = countsAfter g w (b .counts);
 }
 
--- an accepted event; `spoilt` says that a program or an erase does not proceed
-unfoldable pub acceptedBy : Target → Event → List ℕ → Buffers → Bool → Outcome
-acceptedBy t e params b spoilt = record {
+-- an accepted event, by what the buffers say of it
+unfoldable pub acceptedBy : Target → Event → List ℕ → Buffers → Findings → Outcome
+acceptedBy t e params b found = record {
   reply = replyOf t e params (b .registers);
-  target = targetAfter t e spoilt;
-  buffers = worked (t .geometry) (workOf (t .geometry) (t .clear) (t .decoder .sequence) e spoilt) b;
+  target = targetAfter t e found;
+  buffers = worked (t .geometry) (workOf (t .geometry) (t .clear) (t .decoder .sequence) e found) b;
 }
 
 unfoldable pub accepted : Target → Event → List ℕ → Buffers → List ℕ → Outcome
 accepted t e params b flags =
-    acceptedBy t e params b (spoiltBy (t .geometry) (t .decoder .sequence) e (b .counts) flags)
+    acceptedBy t e params b (findings (t .geometry) (t .decoder .sequence) e (b .counts) flags)
 
 -- a record and buffers that rule 13 lets pass, by the verdict
 unfoldable pub byVerdict : Verdict → Target → Event → List ℕ → Buffers → List ℕ → Outcome
@@ -73,10 +75,15 @@ stepOf t e params b flags =
     (steady t e params b flags)
     (record { reply = Refused NotUsable; target = t; buffers = b })
 
+-- where a run stands: the record, and what the lent buffers hold
+pub record State : Type 0 where
+  pub target : Target
+  pub buffers : Buffers
+
 -- For the code: the buffers have the geometry's lengths, and work stays within them.
 pub record Sizes (g : Geometry) (array registers counts : List ℕ) : Type 0 where
-  pub array-size : length array ≡ g .luns * g .blocks * g .pages * g .page
-  pub registers-size : length registers ≡ g .luns * g .page
+  pub array-size : length array ≡ g .luns * g .blocks * g .pages * pageSize g
+  pub registers-size : length registers ≡ g .luns * pageSize g
   pub counts-size : length counts ≡ g .luns * g .blocks * g .pages
 
 unfoldable pub Ready : Geometry → Work → List ℕ → Type 0
@@ -84,6 +91,6 @@ Ready g work.Nothing counts = Unit
 Ready g work.ClearAll counts = Unit
 Ready g (work.ClearOne l) counts = l < g .luns
 Ready g (work.Load r) counts = rowExists g r ≡ true
-Ready g (work.Put l c v) counts = (l < g .luns) × (c .0 < g .page)
+Ready g (work.Put l c v) counts = (l < g .luns) × (c .0 < pageSize g)
 Ready g (work.Program r) counts = (rowExists g r ≡ true) × (getD counts (pageIndex g r) 0 < 255)
 Ready g (work.Erase r) counts = blockExists g r ≡ true

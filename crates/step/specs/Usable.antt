@@ -6,56 +6,48 @@ use mathlib.Core.List.{List}
 use lib.ListN.{getD}
 use lib.Dec.{eqb, ltb, leb}
 use Rattle.target.specs.Pick.{pick}
-use Rattle.target.specs.Address.{lunExists, blockExists, rowExists}
-use Rattle.target.specs.Commands.{takesColumn, takesRow, cyclesOf}
-use Rattle.target.specs.Place.{works, failed}
-use Rattle.target.specs.Sizes.{inLimits, sized}
+use Rattle.target.specs.Words.{hasFeature}
+use Rattle.target.specs.Address.{rowExists}
+use Rattle.target.specs.Commands.{takesColumn, takesRow, cyclesOf, waitsSecond}
+use Rattle.target.specs.Luns.{isReady, lunAt}
+use Rattle.target.specs.Sizes.{pageSize, inLimits, sized}
 use Rattle.target.specs.declared.Column.{Column}
 use Rattle.target.specs.declared.Row.{Row}
 use Rattle.target.specs.declared.Geometry.{Geometry}
+use Rattle.target.specs.declared.Words.{Words}
 use Rattle.target.specs.declared.Lun.{Lun}
 use Rattle.target.specs.declared.Target.{Target}
 use Rattle.target.specs.declared.First.{First}
-use Rattle.target.specs.declared.First.the-variants.{Read, Jump, Fetch, Erase, Status, Look, Program, Identify, Parameters, GetFeature, SetFeature}
 use Rattle.target.specs.declared.Sequence.{Sequence}
 use Rattle.target.specs.declared.Sequence.the-variants.{Idle, Columns, Rows, Single, Due, Filling, Moving, Setting}
 use Rattle.target.specs.declared.Output.{Output}
 use Rattle.target.specs.declared.Output.the-variants as output
+use Rattle.rules.specs.Rules.{rowFits}
 
 -- a column that has come is below P; where none comes it is 0
 abbrev pub columnHeld : Geometry → First → Column → Bool
-columnHeld g f c = pick (takesColumn f) (ltb (c .0) (g .page)) (eqb (c .0) 0)
+columnHeld g f c = pick (takesColumn f) (ltb (c .0) (pageSize g)) (eqb (c .0) 0)
 
--- the column and the row of a sequence whose second command is due, as its first command looks at them
-abbrev pub dueSound : Geometry → First → Column → Row → Bool
-dueSound g Read c r = ltb (c .0) (g .page) && rowExists g r
-dueSound g Jump c r = ltb (c .0) (g .page) && eqb (r .0) 0
-dueSound g Fetch c r = ltb (c .0) (g .page) && lunExists g r
-dueSound g Erase c r = eqb (c .0) 0 && blockExists g r
-dueSound g Status c r = false
-dueSound g Look c r = false
-dueSound g Program c r = false
-dueSound g Identify c r = false
-dueSound g Parameters c r = false
-dueSound g GetFeature c r = false
-dueSound g SetFeature c r = false
+-- a row that has come exists, as its command looks at it; where none comes it is 0
+abbrev pub rowHeld : Geometry → First → Row → Bool
+rowHeld g f r = pick (takesRow f) (rowFits g f r) (eqb (r .0) 0)
 
 -- cycle counts below the command's, whole columns below P (a program's place up to P), rows that exist, a first feature byte of
 -- 0 or 40h; half-given bytes may be any
 abbrev pub sequenceSound : Geometry → Sequence → Bool
 sequenceSound g Idle = true
-sequenceSound g (Columns f got low) = takesColumn f && ltb got 2
-sequenceSound g (Rows f c got low mid) = takesRow f && ltb got 3 && columnHeld g f c
+sequenceSound g (Columns k) = takesColumn (k .first) && ltb (k .got) 2
+sequenceSound g (Rows k) = takesRow (k .first) && ltb (k .got) 3 && columnHeld g (k .first) (k .column)
 sequenceSound g (Single f) = eqb (cyclesOf f) 1
-sequenceSound g (Due f c r) = dueSound g f c r
-sequenceSound g (Filling r at) = leb (at .0) (g .page) && rowExists g r
-sequenceSound g (Moving r got low) = ltb got 2 && rowExists g r
-sequenceSound g (Setting got value) = ltb got 4 && (eqb value 0 || eqb value 0x40)
+sequenceSound g (Due k) = waitsSecond (k .first) && columnHeld g (k .first) (k .column) && rowHeld g (k .first) (k .row)
+sequenceSound g (Filling k) = leb (k .at .0) (pageSize g) && rowExists g (k .row)
+sequenceSound g (Moving k) = ltb (k .got) 2 && rowExists g (k .row)
+sequenceSound g (Setting k) = ltb (k .got) 4 && (eqb (k .value) 0 || eqb (k .value) 0x40)
 
 -- the next byte's place is at most the end; the LUN exists
 abbrev pub outputSound : Geometry → Output → Bool
 outputSound g output.Nothing = true
-outputSound g (output.Register l c) = ltb l (g .luns) && leb (c .0) (g .page)
+outputSound g (output.Register l c) = ltb l (g .luns) && leb (c .0) (pageSize g)
 outputSound g (output.Parameters at) = leb at 768
 outputSound g (output.Status l) = ltb l (g .luns)
 outputSound g (output.Ids at) = leb at 2
@@ -64,15 +56,20 @@ outputSound g (output.Feature at) = leb at 4
 
 -- a LUN past the count is as power-on left it
 abbrev pub markSound : Geometry → List Lun → ℕ → Bool
-markSound g luns l = ltb l (g .luns) || not (works luns l) && not (failed luns l)
+markSound g luns l = ltb l (g .luns) || isReady (lunAt luns l)
 
 abbrev pub marksSound : Geometry → List Lun → Bool
 marksSound g luns = markSound g luns 0 && markSound g luns 1 && markSound g luns 2 && markSound g luns 3
+
+-- feature bit 0 (16-bit bus) is clear; with more than one LUN bit 1 is set; the optional word may be any
+abbrev pub wordsSound : Geometry → Words → Bool
+wordsSound g w = not (hasFeature w 0) && (leb (g .luns) 1 || hasFeature w 1)
 
 unfoldable pub recordSound : Target → Bool
 recordSound t =
     t .powered
     && inLimits (t .geometry)
+    && wordsSound (t .geometry) (t .words)
     && ltb (t .selected) (t .geometry .luns)
     && marksSound (t .geometry) (t .luns)
     && sequenceSound (t .geometry) (t .decoder .sequence)
