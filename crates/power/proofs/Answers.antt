@@ -48,7 +48,7 @@ limited page h =
     (inside 1 _ 8 (f .programs-min) (f .programs-max))
 
 -- the record's words are read as the page's are
-same-bit : (n k : ℕ) → target.bitOf n k ≡ page.bitOf n k
+pub same-bit : (n k : ℕ) → target.bitOf n k ≡ page.bitOf n k
 unfolding target.bitOf page.bitOf
 same-bit n k = refl
 
