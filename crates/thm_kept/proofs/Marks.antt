@@ -24,8 +24,8 @@ use Rattle.target.specs.declared.views.Ender.the-variants as ender
 use Rattle.target.proofs.Both.{both4}
 use Rattle.effects.specs.Effects.{endedLuns, lunsAfter}
 use Rattle.step.specs.Usable.{sequenceSound, markSound, marksSound}
-use Rattle.step.proofs.Views.{Ending, ends, starts}
 use Rattle.thm_kept.proofs.Choice.{by-pick, and-true, or-true}
+use Rattle.thm_kept.proofs.Views.{Ending, ends}
 
 module _ (g : Geometry) where
   -- a store at a LUN that exists leaves the record of one that does not
@@ -55,7 +55,7 @@ module _ (g : Geometry) where
   ended-sound : (luns : List Lun) (found : Ender) (says : Findings) → Ending g found → marksSound g luns ≡ true → marksSound g (endedLuns g luns found says) ≡ true
   ended-sound luns ender.Nothing says h k = k
   ended-sound luns (ender.By e) says h k =
-      by-pick (λ (x : List Lun). marksSound g x ≡ true) (secondRow (e .second) .starts) _ _ (λ is. marks-set luns _ _ (starts g e h is) k) (λ _. k)
+      by-pick (λ (x : List Lun). marksSound g x ≡ true) (secondRow (e .second) .starts) _ _ (λ is. marks-set luns _ _ (h .starts is) k) (λ _. k)
 
   pub marks-kept : (luns : List Lun) (s : Sequence) (e : Event) (says : Findings) → sequenceSound g s ≡ true → marksSound g luns ≡ true
       → (eqb (e .kind) 4 ≡ true → e .value < g .luns)

@@ -32,8 +32,8 @@ use Rattle.target.proofs.Both.{both}
 use Rattle.rules.specs.Rules.{rowFits, beyond, outputEnded}
 use Rattle.effects.specs.Effects.{endedLun, endedOutput, shown, firstOutput, commandOutput, addressedOutput, advanced, outputAfter, rowSelects, selectedAfter}
 use Rattle.step.specs.Usable.{sequenceSound, outputSound}
-use Rattle.step.proofs.Views.{row-named, Completes, completes, Ending, ends}
 use Rattle.thm_kept.proofs.Choice.{by-pick, and-true}
+use Rattle.thm_kept.proofs.Views.{row-named, Completes, completes, Ending, ends}
 
 module _ (g : Geometry) where
   abbrev Sound : Output → Type 0

@@ -27,8 +27,6 @@ use Rattle.target.specs.declared.Sequence.{Sequence}
 use Rattle.target.specs.declared.Sequence.the-variants.{Idle, Columns, Rows, Single, Due, Filling, Moving, Setting}
 use Rattle.target.specs.declared.commands.Then.{Then}
 use Rattle.target.specs.declared.commands.Then.the-variants as then
-use Rattle.target.specs.declared.commands.Act.{Act}
-use Rattle.target.specs.declared.commands.Act.the-variants as act
 use Rattle.target.specs.declared.commands.FirstFound.{FirstFound}
 use Rattle.target.specs.declared.commands.FirstFound.the-variants as first
 use Rattle.target.specs.declared.views.Taker.{Taker}
@@ -39,9 +37,9 @@ use Rattle.target.proofs.Both.{both, both3, meant}
 use Rattle.rules.specs.Rules.{exists, rowFits, beyond, dataEnded, unoffered}
 use Rattle.effects.specs.Effects.{started, opened, isMove, endedSequence, commanded, followed, columnGiven, addressed, filled, sequenceAfter}
 use Rattle.step.specs.Usable.{columnHeld, rowHeld, sequenceSound}
-use Rattle.step.proofs.Commands.{actNeeds, isData, data-row}
-use Rattle.step.proofs.Views.{column-most, page-looked, takerSound, taker-sound, Ending, ends}
 use Rattle.thm_kept.proofs.Choice.{by-pick, and-true, one-of-two, two-of-three, below-at-most}
+use Rattle.thm_kept.proofs.Commands.{isData, data-row}
+use Rattle.thm_kept.proofs.Views.{column-most, page-looked, takerSound, taker-sound, Ending, ends}
 
 module _ (g : Geometry) where
   abbrev Sound : Sequence → Type 0
@@ -61,18 +59,10 @@ module _ (g : Geometry) where
   opened-sound first.Nothing = refl
   opened-sound (first.Found f) = started-sound f
 
-  -- 85h's row is whole
-  move-row : (a : Act) (r : Row) → isMove a ≡ true → exists g (actNeeds a) r ≡ true → rowExists g r ≡ true
-  move-row act.Nothing r is h = absurd (false≢true is)
-  move-row act.Load r is h = absurd (false≢true is)
-  move-row act.Program r is h = absurd (false≢true is)
-  move-row act.Erase r is h = absurd (false≢true is)
-  move-row act.Move r is h = h
-
   ended-sound : (found : Ender) → Ending g found → Sound (endedSequence found)
   ended-sound ender.Nothing h = refl
   ended-sound (ender.By k) h =
-      by-pick Sound (isMove (secondRow (k .second) .act)) _ _ (λ is. move-row (secondRow (k .second) .act) (k .row) is (h .needed)) (λ _. refl)
+      by-pick Sound (isMove (secondRow (k .second) .act)) _ _ (h .moves) (λ _. refl)
 
   commanded-sound : (s : Sequence) (v : ℕ) → Sound s → Sound (commanded s v)
   commanded-sound s v h =

@@ -2,16 +2,16 @@
 --     row-named     a row that a command takes names a LUN that exists
 --     completes     a row that an address cycle completes belongs to a command that takes one
 --     taker-sound   what takes data is sound
---     ends          a second command has a column within the page, and as much of its row as it needs
+--     ends          a second command has a column within the page, and the row that it needs
 -- Assumes nothing.
 use mathlib.Core.Path.{_≡_, refl, sym, ap}
 use mathlib.Core.Bool.{Bool, true, false, _&&_, _||_, not, false≢true}
 use Prim.Native.Nat.{ℕ, _≤_, _<_}
 use native.Mathlib.Omega.{arith}
 use lib.Dec.{eqb, ltb, leb}
-use borrow.Author.Tests.{eqb-true, ltb-true, leb-true, lt-ltb}
+use borrow.Author.Tests.{eqb-true, ltb-true, leb-true}
 use Rattle.target.specs.Pick.{pick}
-use Rattle.target.specs.Address.{lunOf, lunExists, blockExists, rowExists}
+use Rattle.target.specs.Address.{lunOf, rowExists}
 use Rattle.target.specs.Sizes.{pageSize}
 use Rattle.target.specs.Commands.{looksOf, endOf, takesColumn, takesRow, waitsSecond, secondOf, secondRow}
 use Rattle.target.specs.Views.{completed, taking, endedWith, ending}
@@ -36,14 +36,11 @@ use Rattle.target.specs.declared.views.Ender.{Ender}
 use Rattle.target.specs.declared.views.Ender.the-variants as ender
 use Rattle.target.proofs.Both.{both, both3}
 use Rattle.rules.specs.Rules.{exists, rowFits}
+use Rattle.effects.specs.Effects.{isMove}
 use Rattle.step.specs.Usable.{columnHeld, rowHeld, sequenceSound}
-use Rattle.step.proofs.Places.{lun-below, block-there, row-block, row-lun}
-use Rattle.step.proofs.Commands.{looksAtLun, looksAtBlock, looksAtPage, enough, row-looks, secondNeeds, row-enough, starts-named}
-
--- going along a definition's own picks
-pub by-pick : {A : Type 0} (P : A → Type 0) (b : Bool) (x y : A) → (b ≡ true → P x) → (b ≡ false → P y) → P (pick b x y)
-by-pick P true x y h k = h refl
-by-pick P false x y h k = k refl
+use Rattle.step.proofs.Places.{lun-below, block-there, row-lun}
+use Rattle.thm_kept.proofs.Choice.{by-pick, opposite}
+use Rattle.thm_kept.proofs.Commands.{looksAtLun, looksAtPage, row-looks, starts-rowed, never-moves}
 
 module _ (g : Geometry) where
   -- Columns and rows that are held.
@@ -56,49 +53,18 @@ module _ (g : Geometry) where
       by true k = omega (arith, ltb-true (c .0) (pageSize g) k)
       by false k = omega (arith, eqb-true (c .0) 0 k)
 
-  -- a row that is looked at names a LUN, a block, a page that exists
-  pub lun-looked : (l : Looks) (r : Row) → looksAtLun l ≡ true → exists g l r ≡ true → lunOf g r < g .luns
+  -- a row that is looked at names a LUN, and a page, that exists
+  lun-looked : (l : Looks) (r : Row) → looksAtLun l ≡ true → exists g l r ≡ true → lunOf g r < g .luns
   lun-looked looks.Nothing r p h = absurd (false≢true p)
   lun-looked looks.Lun r p h = lun-below g r h
   lun-looked looks.Block r p h = block-there g r h .lun
   lun-looked looks.Page r p h = row-lun g r h
-
-  block-looked : (l : Looks) (r : Row) → looksAtBlock l ≡ true → exists g l r ≡ true → blockExists g r ≡ true
-  block-looked looks.Nothing r p h = absurd (false≢true p)
-  block-looked looks.Lun r p h = absurd (false≢true p)
-  block-looked looks.Block r p h = h
-  block-looked looks.Page r p h = row-block g r h
 
   pub page-looked : (l : Looks) (r : Row) → looksAtPage l ≡ true → exists g l r ≡ true → rowExists g r ≡ true
   page-looked looks.Nothing r p h = absurd (false≢true p)
   page-looked looks.Lun r p h = absurd (false≢true p)
   page-looked looks.Block r p h = absurd (false≢true p)
   page-looked looks.Page r p h = h
-
-  lun-told : (r : Row) → lunOf g r < g .luns → lunExists g r ≡ true
-  unfolding lunExists
-  lun-told r h = lt-ltb _ _ h
-
-  -- looked at as far as is needed
-  exists-enough : (had need : Looks) (r : Row) → enough had need ≡ true → exists g had r ≡ true → exists g need r ≡ true
-  exists-enough had looks.Nothing r p h = refl
-  exists-enough had looks.Lun r p h = lun-told r (lun-looked had r p h)
-  exists-enough had looks.Block r p h = block-looked had r p h
-  exists-enough had looks.Page r p h = page-looked had r p h
-
-  -- all of a row is enough for anything
-  exists-whole : (need : Looks) (r : Row) → rowExists g r ≡ true → exists g need r ≡ true
-  exists-whole looks.Nothing r h = refl
-  exists-whole looks.Lun r h = lun-told r (row-lun g r h)
-  exists-whole looks.Block r h = row-block g r h
-  exists-whole looks.Page r h = h
-
-  -- nothing needed
-  exists-not : (need : Looks) (r : Row) → not (looksAtLun need) ≡ true → exists g need r ≡ true
-  exists-not looks.Nothing r h = refl
-  exists-not looks.Lun r h = absurd (false≢true h)
-  exists-not looks.Block r h = absurd (false≢true h)
-  exists-not looks.Page r h = absurd (false≢true h)
 
   pub row-named : (f : First) (r : Row) → takesRow f ≡ true → rowFits g f r ≡ true → lunOf g r < g .luns
   row-named f r p h = lun-looked (looksOf f) r (row-looks f p) h
@@ -147,54 +113,34 @@ module _ (g : Geometry) where
   pub record Ends (k : Ended) : Type 0 where
     pub column : k .column .0 ≤ pageSize g
     pub row : k .rowed ≡ true → lunOf g (k .row) < g .luns
-    pub needed : exists g (secondNeeds (k .second)) (k .row) ≡ true
+    pub starts : secondRow (k .second) .starts ≡ true → lunOf g (k .row) < g .luns
+    pub moves : isMove (secondRow (k .second) .act) ≡ true → rowExists g (k .row) ≡ true
 
   abbrev pub Ending : Ender → Type 0
   Ending ender.Nothing = Unit
   Ending (ender.By k) = Ends k
 
-  -- where it starts work, it names the LUN
-  pub starts : (k : Ended) → Ends k → secondRow (k .second) .starts ≡ true → lunOf g (k .row) < g .luns
-  starts k h is = lun-looked (secondNeeds (k .second)) (k .row) (starts-named (k .second) is) (h .needed)
-
   -- the second command that a first one waits for
-  module _ (k : Wait) (h : sequenceSound g (Due k) ≡ true) where
-    abbrev f : First
-    f = k .first
-
-    parts : (waitsSecond f ≡ true) × (columnHeld g f (k .column) ≡ true) × (rowHeld g f (k .row) ≡ true)
-    parts = both3 (waitsSecond f) (columnHeld g f (k .column)) (rowHeld g f (k .row)) h
-
-    fits : takesRow f ≡ true → rowFits g f (k .row) ≡ true
-    fits t = rw t at parts .2
-
-    due-needed : (need : Looks) → (not (looksAtLun need) || takesRow f && enough (looksOf f) need) ≡ true → exists g need (k .row) ≡ true
-    due-needed need told = by (not (looksAtLun need)) refl told
-      where
-        by : (b : Bool) → not (looksAtLun need) ≡ b → (b || takesRow f && enough (looksOf f) need) ≡ true → exists g need (k .row) ≡ true
-        by true e l = exists-not need (k .row) e
-        by false e l =
-            let p = both (takesRow f) (enough (looksOf f) need) l in
-            exists-enough (looksOf f) need (k .row) (p .1) (fits (p .0))
-
-    due-ends : (found : SecondFound) → secondOf (endOf f) ≡ found → Ending (endedWith found (k .column) (k .row) (takesRow f))
-    due-ends second.Nothing told = tt
-    due-ends (second.Found s) told = record {
-      column = column-most f (k .column) (parts .1);
-      row = λ t. row-named f (k .row) t (fits t);
-      needed = due-needed (secondNeeds s) (row-enough f (parts .0) s told);
-    }
+  due-ends : (k : Wait) → sequenceSound g (Due k) ≡ true → (found : SecondFound) → secondOf (endOf (k .first)) ≡ found → Ending (endedWith found (k .column) (k .row) (takesRow (k .first)))
+  due-ends k h second.Nothing told = tt
+  due-ends k h (second.Found s) told =
+      let f = k .first in
+      let p = both3 (waitsSecond f) (columnHeld g f (k .column)) (rowHeld g f (k .row)) h in
+      let named : takesRow f ≡ true → lunOf g (k .row) < g .luns = λ is. row-named f (k .row) is (rw is at p .2) in
+      record {
+        column = column-most f (k .column) (p .1);
+        row = named;
+        starts = λ is. named (starts-rowed f (p .0) s told is);
+        moves = λ is. absurd (opposite (isMove (secondRow s .act)) is (never-moves f (p .0) s told));
+      }
 
   -- 10h and 85h inside a program
   filling-ends : (k : Fill) → sequenceSound g (Filling k) ≡ true → (found : SecondFound) → Ending (endedWith found (k .at) (k .row) true)
   filling-ends k h second.Nothing = tt
   filling-ends k h (second.Found s) =
       let p = both (leb (k .at .0) (pageSize g)) (rowExists g (k .row)) h in
-      record {
-        column = leb-true _ _ (p .0);
-        row = λ _. row-lun g (k .row) (p .1);
-        needed = exists-whole (secondNeeds s) (k .row) (p .1);
-      }
+      let named = row-lun g (k .row) (p .1) in
+      record { column = leb-true _ _ (p .0); row = λ _. named; starts = λ _. named; moves = λ _. p .1 }
 
   pub ends : (s : Sequence) (v : ℕ) → sequenceSound g s ≡ true → Ending (ending s v)
   ends Idle v h = tt
