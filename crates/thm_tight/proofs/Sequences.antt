@@ -38,7 +38,7 @@ use Rattle.rules.proofs.ByKind.{event}
 use Rattle.effects.specs.Effects.{started, columnGiven, followed, shown, sequenceAfter, outputAfter, lunsAfter, selectedAfter, clearAfter, highAfter, targetAfter}
 use Rattle.step.specs.Usable.{columnHeld, rowHeld, sequenceSound}
 use Rattle.thm_kept.proofs.Views.{row-named}
-use Rattle.thm_tight.specs.Tight.{Stands, Leaves, SequenceGiven, bytesHeld}
+use Rattle.thm_tight.specs.Tight.{Stands, SequenceGiven, bytesHeld}
 use Rattle.thm_tight.proofs.Part.{Fine}
 use Rattle.thm_tight.proofs.Ways.{Way, to-end, reached}
 use Rattle.thm_tight.proofs.Commands.{every, addresses, no-output, waits-some, waits-then}
