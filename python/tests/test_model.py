@@ -40,7 +40,8 @@ def reply_of(word: str) -> Reply:
 def blocks() -> Iterator[List[Tuple[str, str]]]:
     """The lines of each block: events, and the answers of the last of them."""
     for block in re.findall(r"(?s)```trace\n(.*?)```", MODEL):
-        yield [tuple(part.strip() for part in line.split("->")) for line in block.strip().split("\n")]  # type: ignore[misc]
+        lines = [line.partition("->") for line in block.strip().split("\n")]
+        yield [(text.strip(), answers.strip()) for text, _, answers in lines]
 
 
 def rows() -> List[Tuple[str, str]]:
