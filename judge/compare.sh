@@ -3,7 +3,7 @@
 #   compare.sh                  writes the C program's lines to ../crates/test_judge/stdout,
 #                               which the gate holds the proved program to
 #   compare.sh --check [SEED [COUNT]]
-#                               runs both, the proved one as ../target/bin/test_judge ('rt check test_judge'
+#                               runs both, the proved one as ../target/bin/judged ('rt check judged'
 #                               builds it), and says where their lines first differ: the line, and in
 #                               it the trace, the record and the two replies. Without SEED the stored
 #                               file is compared too
@@ -13,7 +13,7 @@ set -eu
 cd "$(dirname "$0")"
 out=../target/judge
 stored=../crates/test_judge/stdout
-proved=${JUDGED:-../target/bin/test_judge}
+proved=${JUDGED:-../target/bin/judged}
 ./build.sh build
 
 if [ $# -eq 0 ]; then
@@ -31,7 +31,7 @@ if [ "${1:-}" = -x ]; then
     error=$2
     shift 2
 fi
-[ -x "$proved" ] || { echo "compare: no $proved; run 'rt check test_judge' first" >&2; exit 2; }
+[ -x "$proved" ] || { echo "compare: no $proved; run 'rt check judged' first" >&2; exit 2; }
 
 # Both files, and the first line in which they differ.
 first_difference() {

@@ -1229,7 +1229,7 @@ line('E', ['02', '03'])
 line('Y', ['4:10'])
 
 text = '\n'.join(OUT) + '\n'
-path = os.path.join(os.path.dirname(os.path.dirname(os.path.abspath(__file__))), 'crates', 'test_table', 'data', 'table')
+path = os.path.join(os.path.dirname(os.path.dirname(os.path.abspath(__file__))), 'crates', 'cases', 'data', 'table')
 if sys.argv[1:] == ['--check']:
     with open(path) as stored:
         sys.exit(0 if stored.read() == text else 'crates/test_table/data/table is not what this script writes')

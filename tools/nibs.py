@@ -8,7 +8,7 @@ with its text, by a reader and a writer of their own.
 import os, random, sys
 
 ROOT = os.path.join(os.path.dirname(os.path.abspath(__file__)), '..', 'crates')
-DATA = os.path.join(ROOT, 'test_nib', 'data')
+DATA = os.path.join(ROOT, 'nibs', 'data')
 LOOK = 'c ff  c 00  a 00 00 01 00 00  c 30  f 0  o 16\nc 78  a 00 00 00  o 1\n'
 KINDS = {'c': 0, 'a': 1, 'd': 2, 'f': 4, 'p': 5}
 
@@ -77,7 +77,7 @@ def many():
 
 
 def files():
-    makers = open(os.path.join(ROOT, 'test_pages', 'data', 'makers'), 'rb').read()
+    makers = open(os.path.join(ROOT, 'pages', 'data', 'makers'), 'rb').read()
     for name, count in (('tiny', 0), ('dark', 2)):
         yield name + '/page', page(2, 0x23)
         yield name + '/id', b'\x68'

@@ -11,8 +11,8 @@ import os
 import sys
 
 ROOT = os.path.dirname(os.path.dirname(os.path.abspath(__file__)))
-MAKERS = os.path.join(ROOT, 'crates', 'test_pages', 'data', 'makers')
-STDOUT = os.path.join(ROOT, 'crates', 'test_pages', 'stdout')
+MAKERS = os.path.join(ROOT, 'crates', 'pages', 'data', 'makers')
+STDOUT = os.path.join(ROOT, 'crates', 'pages', 'stdout')
 
 # The parts of crates/test_pages/data/makers in order, each with the CRC that its maker's sheet prints.
 PRINTED = [
