@@ -40,9 +40,9 @@ extern "C" {
 
 /* ---- The record ----
  *
- * Plain numbers: it may be copied, stored, compared byte by byte (padding aside) and written to a file for the same
- * kind of machine. A new record is made by nib_power_on, which reads nothing of what was there before. Reading it is
- * welcome; whoever writes to it gets 13, or a target in the state that was written. 112 bytes where size_t has 8. */
+ * Plain numbers: it may be copied, stored, compared byte by byte (padding aside) and written to a file for the same kind of
+ * machine. A new record is made by nib_power_on, which reads nothing of what was there before. Reading it is welcome; whoever
+ * writes to it gets 13, or a target in the state that was written. 112 bytes where size_t has 8. */
 typedef struct nib_target {
     /* The part, as its page says. */
     size_t page;            /* P: data plus spare bytes of a page */
@@ -70,7 +70,7 @@ typedef struct nib_target {
     uint8_t maker, device;
     /* The open sequence. */
     uint8_t sequence;       /* enum nib_sequence */
-    uint8_t first;          /* its first command, 0 to 10: 00h 05h 06h 60h 70h 78h 80h 90h ECh EEh EFh; else 0 */
+    uint8_t first;          /* its first command, as 0 to 10: 00h 05h 06h 60h 70h 78h 80h 90h ECh EEh EFh; 0 where it has none */
     uint8_t got;            /* address cycles or feature bytes of it that have come */
     uint8_t low, mid;       /* the bytes of a half-given address */
     uint8_t value;          /* the first byte of a half-given feature */
