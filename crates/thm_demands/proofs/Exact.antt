@@ -105,7 +105,7 @@ from-speaks q (r ∷ rs) h = by (λ k. from-speaks q rs k) (r .holds) (eqb (numb
 silent-first : (rs : List Rule) → silent rs ≡ true → firstHolding rs ≡ verdicts.Accepted
 unfolding orElse
 silent-first [] h = refl
-silent-first (r ∷ rs) h = by (λ k. silent-firstHolding rs k) (r .holds) h
+silent-first (r ∷ rs) h = by (λ k. silent-first rs k) (r .holds) h
   where
     by : (silent rs ≡ true → firstHolding rs ≡ verdicts.Accepted) → (b : Bool) → (not b && silent rs) ≡ true → pick b (verdicts.Refused (r .gives)) (firstHolding rs) ≡ verdicts.Accepted
     by ih true k = absurd (false≢true k)
@@ -114,7 +114,7 @@ silent-first (r ∷ rs) h = by (λ k. silent-firstHolding rs k) (r .holds) h
 loud-first : (rs : List Rule) → silent rs ≡ false → (q : Refusal) × (firstHolding rs ≡ verdicts.Refused q)
 unfolding orElse
 loud-first [] h = absurd (false≢true (sym h))
-loud-first (r ∷ rs) h = by (λ k. loud-firstHolding rs k) (r .holds) h
+loud-first (r ∷ rs) h = by (λ k. loud-first rs k) (r .holds) h
   where
     by : (silent rs ≡ false → (q : Refusal) × (firstHolding rs ≡ verdicts.Refused q)) → (b : Bool) → (not b && silent rs) ≡ false → (q : Refusal) × (pick b (verdicts.Refused (r .gives)) (firstHolding rs) ≡ verdicts.Refused q)
     by ih true k = (r .gives, refl)
@@ -176,6 +176,6 @@ module _ (t : Target) (e : Event) (page : List ℕ) (b : Buffers) (flags : List 
       record {
         only-then = λ q h. to-speaks q rs all-distinct (step-says q .1 h);
         always-then = λ q h. step-says q .0 (from-speaks q rs h);
-        else-accepted = λ h q k. let z : verdicts.Accepted ≡ verdicts.Refused q = sym (silent-firstHolding rs h) ∙ step-says q .1 k in apart (cc);
-        or-refused = λ h. let l = loud-firstHolding rs h in (l .0, step-says (l .0) .0 (l .1));
+        else-accepted = λ h q k. let z : verdicts.Accepted ≡ verdicts.Refused q = sym (silent-first rs h) ∙ step-says q .1 k in apart (cc);
+        or-refused = λ h. let l = loud-first rs h in (l .0, step-says (l .0) .0 (l .1));
       }

@@ -77,7 +77,7 @@ abbrev pub status : Bool → Lun → ℕ
 status high l = statusOf (part t1 sequence.Idle high l) 0
 
 pub record Cases : Type 0 where
-  pub a : t1 .luns * t1 .blocks * pageSize t1s * pageSize t1 ≡ 33792
+  pub a : t1 .luns * t1 .blocks * t1 .pages * pageSize t1 ≡ 33792
   pub b : (lunOf t1 (row 55) ≡ 1) × (blockOf t1 (row 55) ≡ 5) × (pageOf t1 (row 55) ≡ 3) × (pageIndex t1 (row 55) * pageSize t1 ≡ 29040)
   pub c : (lunOf t2 (row 18) ≡ 0) × (blockOf t2 (row 18) ≡ 4) × (pageOf t2 (row 18) ≡ 2)
   pub d : row80 t2 15 ≡ Refused refusal.OutOfRange
