@@ -74,7 +74,9 @@ SequenceGiven g (Rows k) =
     × Leaves {A = First × ℕ} g Rows (λ j. (j .first, j .low)) k
     × Leaves {A = First × ℕ} g Rows (λ j. (j .first, j .mid)) k
 SequenceGiven g (Single f) = Stands g (Single f)
-SequenceGiven g (Due k) = Leaves {A = First × Column} g Due (λ j. (j .first, j .column)) k × Leaves {A = First × Row} g Due (λ j. (j .first, j .row)) k
+SequenceGiven g (Due k) =
+    Leaves {A = First × Column} g Due (λ j. (j .first, j .column)) k
+    × Leaves {A = First × Row} g Due (λ j. (j .first, j .row)) k
 SequenceGiven g (Filling k) = Leaves g Filling (λ j. j .row) k × Leaves g Filling (λ j. j .at) k
 SequenceGiven g (Moving k) =
     Leaves g Moving (λ j. j .row) k
