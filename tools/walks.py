@@ -1,5 +1,5 @@
 #!/usr/bin/env python3
-"""Writes the four walks of the crate `lent`: proofs/step_in_place, step_lent, run_batch and run_some.
+"""Writes the four walks of the crate `in_place`: proofs/step_in_place, step_lent, run_batch and run_some.
 
 A walk names what it uses by its place in the context, so one parameter more shifts nearly every number in it. Here the context is
 kept as a list of names, and the numbers are computed. What comes out is plain antt, which `rt` checks like any other proof. Of each
@@ -269,7 +269,7 @@ vL x = sliceVal (x .ptr) (length (x .now))
         tup(['r .target', 'tt'] + ['z-' + s if k == 'mut' else 'tt' for s, k in slices]), tup(['tt', 'tt'] + ['l-' + s if k == 'mut' else 'tt' for s, k in slices]), ex))
     # the walk
     pv = lst(['vptr b o', 'vE e'] + ['vL ' + s for s in names])
-    w('  module _ (C : Calls 𝓤 H) (Λ : Loops 𝓤 H) (fm : FmC 𝓤 H (W .laws) C) (known : Triple 𝓤 (C #bench·step) (Step 𝓤 H A at-mem run)) where')
+    w('  module _ (C : Calls 𝓤 H) (Λ : Loops 𝓤 H) (fm : FmC 𝓤 H (W .laws) C) (known : Triple 𝓤 (C #step·step) (Step 𝓤 H A at-mem run)) where')
     w('    walk : Is E.the-row e (vE e ∷ []) → %s' % ' → '.join('Room u8 (length (%s .now))' % s for s in names))
     w('        → ent 𝓤 (onEntry 𝓤 H A in-place.signature %s %s x at) (WpFn 𝓤 H C Λ code.function (%s) Post)' % (tup(['κ'] + κs), tup(['q'] + qs), pv))
     w('    walk is-e %s =' % ' '.join('room-' + s for s in names))
@@ -326,7 +326,7 @@ vL x = sliceVal (x .ptr) (length (x .now))
     L = m + 1
     tells = ['mut-tells (named 0) (κs .0) T.the-row', 'LL.tells E.the-type E′.the-laws'] + ['%s (named %d) (%s) u8' % ('mut-slice-tells' if k == 'mut' else 'shr-slice-tells', i + 1, proj('κs', i + 1)) for i, (s, k) in enumerate(slices)]
     w('''module _ {M : Type 1} (𝓤 : URA M) (H : Heap 𝓤) (A : Atoms 𝓤) (W : Given 𝓤 H A) (at-mem : Memory → SProp 𝓤) (run : Routine → Fun 𝓤) where
-  in-place-walks : (C : Calls 𝓤 H) (Λ : Loops 𝓤 H) → FmC 𝓤 H (W .laws) C → Triple 𝓤 (C #bench·step) (Step 𝓤 H A at-mem run) → Walks 𝓤 H A in-place.ended stayed (WpFn 𝓤 H C Λ code.function) (in-place.clauses 𝓤 H A at-mem run)
+  in-place-walks : (C : Calls 𝓤 H) (Λ : Loops 𝓤 H) → FmC 𝓤 H (W .laws) C → Triple 𝓤 (C #step·step) (Step 𝓤 H A at-mem run) → Walks 𝓤 H A in-place.ended stayed (WpFn 𝓤 H C Λ code.function) (in-place.clauses 𝓤 H A at-mem run)
   in-place-walks C Λ fm known = walked 𝓤 H A in-place.ended stayed (in-place.clauses 𝓤 H A at-mem run) (WpFn 𝓤 H C Λ code.function)
       (λ κs. %s)
       (λ κs. %s)
@@ -338,7 +338,7 @@ vL x = sliceVal (x .ptr) (length (x .now))
       %s
 ''' % (tup(['ptr-vals', 'LL.vals E.the-type E′.the-laws'] + ['slice-vals'] * m), tup(tells), ' '.join('(%s)' % proj(v, i) for v, k in [('κs', L), ('qs', L), ('a', m + 2)] for i in range(k)), ' '.join('(%s .0 .1)' % proj('are', 2 + i) for i in range(m)), L,
         tup(['goes-ref 𝓤 H A W %d 0 tt (plain (λ _. T.the-row))' % L, 'goes-dropped 𝓤 H A W %d (plain (λ _. E.the-row)) yes (λ κs x f. refl)' % L] + ['goes-gave-slice 𝓤 H A W %d %d tt (plain (λ _. u8))' % (L, i + 1) if k == 'mut' else 'goes-dropped 𝓤 H A W %d (%s) yes (λ κs x f. refl)' % (L, slot(k, i + 1)) for i, (s, k) in enumerate(slices)]).replace(', (goes', ',\n      (goes')))
-    w('''in-place-meets : {M : Type 1} (𝓤 : URA M) (H : Heap 𝓤) (A : Atoms 𝓤) → Given 𝓤 H A → (at-mem : Memory → SProp 𝓤) (run : Routine → Fun 𝓤) (𝓣 : Tables 𝓤 H) → Triple 𝓤 (𝓣 .C #bench·step) (Step 𝓤 H A at-mem run)
+    w('''in-place-meets : {M : Type 1} (𝓤 : URA M) (H : Heap 𝓤) (A : Atoms 𝓤) → Given 𝓤 H A → (at-mem : Memory → SProp 𝓤) (run : Routine → Fun 𝓤) (𝓣 : Tables 𝓤 H) → Triple 𝓤 (𝓣 .C #step·step) (Step 𝓤 H A at-mem run)
     → Meets 𝓤 H A in-place.signature (WpFn 𝓤 H (𝓣 .C) (𝓣 .Λ) code.function) (in-place.spec 𝓤 H A at-mem run)
 in-place-meets 𝓤 H A W at-mem run 𝓣 known =
     walk-meets 𝓤 H A in-place.ended stayed W (goes-on 𝓤 H A W at-mem run) (in-place.clauses 𝓤 H A at-mem run)
@@ -348,9 +348,9 @@ pub step-in-place-spec : {M : Type 1} → stated.statement M
 unfolding code.routine tablesOf
 step-in-place-spec 𝓤 H 𝓜 𝓖 𝓡 =
     entered 𝓤 H (tripleOf 𝓤 H (𝓖 .A) in-place.signature (in-place.spec 𝓤 H (𝓖 .A) (𝓜 .mem) (𝓡 .run)))
-    (tables 𝓤 H 𝓜 𝓡 code.env .C) (tables 𝓤 H 𝓜 𝓡 code.env .Λ) #lent·step-in-place code.function (code.unfolded 𝓤 H 𝓜 𝓡)
+    (tables 𝓤 H 𝓜 𝓡 code.env .C) (tables 𝓤 H 𝓜 𝓡 code.env .Λ) #in-place·step-in-place code.function (code.unfolded 𝓤 H 𝓜 𝓡)
     (in-place-meets 𝓤 H (𝓖 .A) (givenOf 𝓤 H 𝓜 𝓖) (𝓜 .mem) (𝓡 .run) (tablesOf 𝓤 H 𝓜 (tables 𝓤 H 𝓜 𝓡 code.env))
-    (cited 𝓤 H (Step 𝓤 H (𝓖 .A) (𝓜 .mem) (𝓡 .run)) 𝓜 𝓡 code.env #bench·step step-def.routine code.calls-bench·step (step-thm.met 𝓤 H 𝓜 𝓖 𝓡)))''')
+    (cited 𝓤 H (Step 𝓤 H (𝓖 .A) (𝓜 .mem) (𝓡 .run)) 𝓜 𝓡 code.env #step·step step-def.routine code.calls-step·step (step-thm.met 𝓤 H 𝓜 𝓖 𝓡)))''')
     return '\n'.join(o) + '\n'
 
 
@@ -553,7 +553,7 @@ ev-slice = sliceTy (tyRef (named 0) imm (pointee (E.the-row .written)))
     br = lambda t: '(%s)' % t if ' ' in t else t
     locs = ['‵ (fat fullShare %s %s 0 %s) ∷ ‵ (fdies %s %s)' % (br(ty[k]), loc(k), vl[k], br(ty[k]), loc(k)) if k in vl else '‵ (froom %s %s 0) ∷ ‵ (fdies %s %s)' % (br(ty[k]), loc(k), br(ty[k]), loc(k)) for k in range(n - 1, -1, -1)]
     ls = ' '.join(loc(k) for k in range(n))
-    w('  module _ (𝓣 : Tables 𝓤 H) (known : Triple 𝓤 (𝓣 .C #lent·run-one) (One 𝓤 H A at-mem run)) (is-p : IsP) (%s : ℕ) where' % ls)
+    w('  module _ (𝓣 : Tables 𝓤 H) (known : Triple 𝓤 (𝓣 .C #in-place·run-one) (One 𝓤 H A at-mem run)) (is-p : IsP) (%s : ℕ) where' % ls)
     w('''    abbrev C : Calls 𝓤 H
     C = 𝓣 .C
 
@@ -682,7 +682,7 @@ ev-slice = sliceTy (tyRef (named 0) imm (pointee (E.the-row .written)))
     pv = lst(vals)
     c = Ctx(['toks', 'owns'])
     w('  -- the MIR up to the loop: the plan is asked for, and what the slices own is taken apart')
-    w('  module _ (𝓣 : Tables 𝓤 H) (known-plan : Triple 𝓤 (𝓣 .C #lent·batch-plan) (Planned 𝓤 H A at-mem run)) (known-one : Triple 𝓤 (𝓣 .C #lent·run-one) (One 𝓤 H A at-mem run)) where')
+    w('  module _ (𝓣 : Tables 𝓤 H) (known-plan : Triple 𝓤 (𝓣 .C #in-place·batch-plan) (Planned 𝓤 H A at-mem run)) (known-one : Triple 𝓤 (𝓣 .C #in-place·run-one) (One 𝓤 H A at-mem run)) where')
     w('    walk : Is T.the-row t₀ (vT t₀ ∷ []) → ent 𝓤 (onEntry 𝓤 H A batch.signature %s %s args at) (WpFn 𝓤 H (𝓣 .C) (𝓣 .Λ) code.function (%s) Post)' % (tup(κs), tup(qs), pv))
     w('    walk is-t =')
     w('        qed W ((%s) ∷ ‵ (owns (%s) args at) ∷ []) ∵' % (' ⊛ '.join([lft(s) for s in ['events'] + names] + ['‵ ftrue']), lst(['T.the-row', 'ShrSlice (named 0) κ-events E.the-row'] + [row(k, j[s], s) for s, k in slices])))
@@ -713,7 +713,7 @@ ev-slice = sliceTy (tyRef (named 0) imm (pointee (E.the-row .written)))
     K = m + 1
     tells = ['LL.tells T.the-type T′.the-laws', 'shr-slice-tells (named 0) (κs .0) E.the-row'] + ['%s (named %d) (%s) u8' % ('mut-slice-tells' if k == 'mut' else 'shr-slice-tells', j[s], proj('κs', j[s])) for s, k in slices]
     w('''module _ {M : Type 1} (𝓤 : URA M) (H : Heap 𝓤) (A : Atoms 𝓤) (W : Given 𝓤 H A) (at-mem : Memory → SProp 𝓤) (run : Routine → Fun 𝓤) where
-  batch-walks : (𝓣 : Tables 𝓤 H) → Triple 𝓤 (𝓣 .C #lent·batch-plan) (Planned 𝓤 H A at-mem run) → Triple 𝓤 (𝓣 .C #lent·run-one) (One 𝓤 H A at-mem run) → Walks 𝓤 H A batch.ended stayed (WpFn 𝓤 H (𝓣 .C) (𝓣 .Λ) code.function) (batch.clauses 𝓤 H A at-mem run)
+  batch-walks : (𝓣 : Tables 𝓤 H) → Triple 𝓤 (𝓣 .C #in-place·batch-plan) (Planned 𝓤 H A at-mem run) → Triple 𝓤 (𝓣 .C #in-place·run-one) (One 𝓤 H A at-mem run) → Walks 𝓤 H A batch.ended stayed (WpFn 𝓤 H (𝓣 .C) (𝓣 .Λ) code.function) (batch.clauses 𝓤 H A at-mem run)
   batch-walks 𝓣 known-plan known-one = walked 𝓤 H A batch.ended stayed (batch.clauses 𝓤 H A at-mem run) (WpFn 𝓤 H (𝓣 .C) (𝓣 .Λ) code.function)
       (λ κs. %s)
       (λ κs. %s)
@@ -726,7 +726,7 @@ ev-slice = sliceTy (tyRef (named 0) imm (pointee (E.the-row .written)))
       %s
 ''' % (tup(['LL.vals T.the-type T′.the-laws'] + ['slice-vals'] * K), tup(tells), ' '.join('(%s)' % proj(v, i) for v, q in [('κs', K), ('qs', K), ('a', m + 2)] for i in range(q)), ' '.join('(%s .0 .1)' % proj('are', 1 + i) for i in range(K)), K,
         tup(['goes-dropped 𝓤 H A W %d (plain (λ _. T.the-row)) yes (λ κs x f. refl)' % K, 'goes-dropped 𝓤 H A W %d (shrSliceOf (0 ∷ []) tt (plain (λ _. E.the-row))) yes (λ κs x f. refl)' % K] + ['goes-slice 𝓤 H A W %d %d tt (plain (λ _. u8))' % (K, j[s]) if k == 'mut' else 'goes-dropped 𝓤 H A W %d (%s) yes (λ κs x f. refl)' % (K, slot(k, j[s])) for s, k in slices]).replace(', (goes', ',\n      (goes')))
-    w('''batch-meets : {M : Type 1} (𝓤 : URA M) (H : Heap 𝓤) (A : Atoms 𝓤) → Given 𝓤 H A → (at-mem : Memory → SProp 𝓤) (run : Routine → Fun 𝓤) (𝓣 : Tables 𝓤 H) → Triple 𝓤 (𝓣 .C #lent·batch-plan) (Planned 𝓤 H A at-mem run) → Triple 𝓤 (𝓣 .C #lent·run-one) (One 𝓤 H A at-mem run)
+    w('''batch-meets : {M : Type 1} (𝓤 : URA M) (H : Heap 𝓤) (A : Atoms 𝓤) → Given 𝓤 H A → (at-mem : Memory → SProp 𝓤) (run : Routine → Fun 𝓤) (𝓣 : Tables 𝓤 H) → Triple 𝓤 (𝓣 .C #in-place·batch-plan) (Planned 𝓤 H A at-mem run) → Triple 𝓤 (𝓣 .C #in-place·run-one) (One 𝓤 H A at-mem run)
     → Meets 𝓤 H A batch.signature (WpFn 𝓤 H (𝓣 .C) (𝓣 .Λ) code.function) (batch.spec 𝓤 H A at-mem run)
 batch-meets 𝓤 H A W at-mem run 𝓣 known-plan known-one =
     walk-meets 𝓤 H A batch.ended stayed W (goes-on 𝓤 H A W at-mem run) (batch.clauses 𝓤 H A at-mem run)
@@ -736,10 +736,10 @@ pub run-batch-spec : {M : Type 1} → stated.statement M
 unfolding code.routine tablesOf
 run-batch-spec 𝓤 H 𝓜 𝓖 𝓡 =
     entered 𝓤 H (tripleOf 𝓤 H (𝓖 .A) batch.signature (batch.spec 𝓤 H (𝓖 .A) (𝓜 .mem) (𝓡 .run)))
-    (tables 𝓤 H 𝓜 𝓡 code.env .C) (tables 𝓤 H 𝓜 𝓡 code.env .Λ) #lent·run-batch code.function (code.unfolded 𝓤 H 𝓜 𝓡)
+    (tables 𝓤 H 𝓜 𝓡 code.env .C) (tables 𝓤 H 𝓜 𝓡 code.env .Λ) #in-place·run-batch code.function (code.unfolded 𝓤 H 𝓜 𝓡)
     (batch-meets 𝓤 H (𝓖 .A) (givenOf 𝓤 H 𝓜 𝓖) (𝓜 .mem) (𝓡 .run) (tablesOf 𝓤 H 𝓜 (tables 𝓤 H 𝓜 𝓡 code.env))
-    (cited 𝓤 H (Planned 𝓤 H (𝓖 .A) (𝓜 .mem) (𝓡 .run)) 𝓜 𝓡 code.env #lent·batch-plan plan-def.routine code.calls-lent·batch-plan (plan-thm.met 𝓤 H 𝓜 𝓖 𝓡))
-    (cited 𝓤 H (One 𝓤 H (𝓖 .A) (𝓜 .mem) (𝓡 .run)) 𝓜 𝓡 code.env #lent·run-one one-def.routine code.calls-lent·run-one (one-thm.met 𝓤 H 𝓜 𝓖 𝓡)))''')
+    (cited 𝓤 H (Planned 𝓤 H (𝓖 .A) (𝓜 .mem) (𝓡 .run)) 𝓜 𝓡 code.env #in-place·batch-plan plan-def.routine code.calls-in-place·batch-plan (plan-thm.met 𝓤 H 𝓜 𝓖 𝓡))
+    (cited 𝓤 H (One 𝓤 H (𝓖 .A) (𝓜 .mem) (𝓡 .run)) 𝓜 𝓡 code.env #in-place·run-one one-def.routine code.calls-in-place·run-one (one-thm.met 𝓤 H 𝓜 𝓖 𝓡)))''')
     return '\n'.join(o) + '\n'
 
 
@@ -856,7 +856,7 @@ room-of k h = (omega arith, omega arith)
 ''' % (size, size, size, cross(['Target', 'RefT (List Event)'] + lists), tup(['t', 'lent'] + names), tup(['ν ∷ []'] + κs), tup(['fullShare'] + qs), tup(['vT t ∷ []', 'sliceVal (l, 0) k ∷ []'] + slvals),
         lst(['‵ (flft (ν ∷ []) fullShare)', '(%s)' % ' ⊛ '.join(toks), tgt, shr, '‵ (%s)' % owned(0)]), lst(['‵ (flft (ν ∷ []) fullShare)', '(%s)' % ' ⊛ '.join(toks), tgt, shr, '‵ (%s)' % owned(1)])))
     pv = lst(['vT t', 'vF es', 'vint w64 n'] + ['vL ' + s for s in names])
-    w('  module _ (C : Calls 𝓤 H) (Λ : Loops 𝓤 H) (fm : FmC 𝓤 H (W .laws) C) (known-lesser : Triple 𝓤 (C #lent·lesser) (Lesser 𝓤 H A at-mem run)) (known : Triple 𝓤 (C #lent·run-batch) (Batch 𝓤 H A at-mem run)) where')
+    w('  module _ (C : Calls 𝓤 H) (Λ : Loops 𝓤 H) (fm : FmC 𝓤 H (W .laws) C) (known-lesser : Triple 𝓤 (C #in-place·lesser) (Lesser 𝓤 H A at-mem run)) (known : Triple 𝓤 (C #in-place·run-batch) (Batch 𝓤 H A at-mem run)) where')
     w('    walk : Is T.the-row t (vT t ∷ []) → Is F es (vF es ∷ []) → n < 2 ^ 64 → %s' % ' → '.join('Room u8 (length (%s .now))' % s for s in names))
     w('        → ent 𝓤 (onEntry 𝓤 H A some.signature %s %s args at) (WpFn 𝓤 H C Λ code.function (%s) Post)' % (tup(κs), tup(qs), pv))
     w('    walk is-t is-f fits %s =' % ' '.join('room-' + s for s in names))
@@ -917,7 +917,7 @@ room-of k h = (omega arith, omega arith)
     w('        keep ! (%s) $ by ! (exits l-es r v %s says-so %s)%s\n' % (lst([c.at(y) for y in ['toks'] + ['fin-' + s for s in muts] + ['own-r']]), zz, ' '.join('l-' + s for s in muts), c.close()))
     tells = ['LL.tells T.the-type T′.the-laws', 'array-tells E.the-row (LL.vals E.the-type E′.the-laws) (LL.tells E.the-type E′.the-laws) %d' % size, 'uint-tells w64'] + ['%s (named %d) (%s) u8' % ('mut-slice-tells' if k == 'mut' else 'shr-slice-tells', i, proj('κs', i)) for i, (s, k) in enumerate(slices)]
     w('''module _ {M : Type 1} (𝓤 : URA M) (H : Heap 𝓤) (A : Atoms 𝓤) (W : Given 𝓤 H A) (at-mem : Memory → SProp 𝓤) (run : Routine → Fun 𝓤) where
-  some-walks : (C : Calls 𝓤 H) (Λ : Loops 𝓤 H) → FmC 𝓤 H (W .laws) C → Triple 𝓤 (C #lent·lesser) (Lesser 𝓤 H A at-mem run) → Triple 𝓤 (C #lent·run-batch) (Batch 𝓤 H A at-mem run) → Walks 𝓤 H A some.ended stayed (WpFn 𝓤 H C Λ code.function) (some.clauses 𝓤 H A at-mem run)
+  some-walks : (C : Calls 𝓤 H) (Λ : Loops 𝓤 H) → FmC 𝓤 H (W .laws) C → Triple 𝓤 (C #in-place·lesser) (Lesser 𝓤 H A at-mem run) → Triple 𝓤 (C #in-place·run-batch) (Batch 𝓤 H A at-mem run) → Walks 𝓤 H A some.ended stayed (WpFn 𝓤 H C Λ code.function) (some.clauses 𝓤 H A at-mem run)
   some-walks C Λ fm known-lesser known = walked 𝓤 H A some.ended stayed (some.clauses 𝓤 H A at-mem run) (WpFn 𝓤 H C Λ code.function)
       (λ κs. %s)
       (λ κs. %s)
@@ -929,7 +929,7 @@ room-of k h = (omega arith, omega arith)
       %s
 ''' % (tup(['LL.vals T.the-type T′.the-laws', 'array-vals (LL.vals E.the-type E′.the-laws)', 'uint-vals w64'] + ['slice-vals'] * m), tup(tells), ' '.join('(%s)' % proj(v, i) for v, q in [('κs', m), ('qs', m), ('a', m + 3)] for i in range(q)), ' '.join('(%s .0 .1)' % proj('are', 3 + i) for i in range(m)), m,
         tup(['goes-dropped 𝓤 H A W %d (plain (λ _. T.the-row)) yes (λ κs x f. refl)' % m, 'goes-dropped 𝓤 H A W %d (%s) yes (λ κs x f. refl)' % (m, array), 'goes-dropped 𝓤 H A W %d (plain (λ _. usize)) yes (λ κs x f. refl)' % m] + ['goes-gave-slice 𝓤 H A W %d %d tt (plain (λ _. u8))' % (m, i) if k == 'mut' else 'goes-dropped 𝓤 H A W %d (%s) yes (λ κs x f. refl)' % (m, slot(k, i)) for i, (s, k) in enumerate(slices)]).replace(', (goes', ',\n      (goes')))
-    w('''some-meets : {M : Type 1} (𝓤 : URA M) (H : Heap 𝓤) (A : Atoms 𝓤) → Given 𝓤 H A → (at-mem : Memory → SProp 𝓤) (run : Routine → Fun 𝓤) (𝓣 : Tables 𝓤 H) → Triple 𝓤 (𝓣 .C #lent·lesser) (Lesser 𝓤 H A at-mem run) → Triple 𝓤 (𝓣 .C #lent·run-batch) (Batch 𝓤 H A at-mem run)
+    w('''some-meets : {M : Type 1} (𝓤 : URA M) (H : Heap 𝓤) (A : Atoms 𝓤) → Given 𝓤 H A → (at-mem : Memory → SProp 𝓤) (run : Routine → Fun 𝓤) (𝓣 : Tables 𝓤 H) → Triple 𝓤 (𝓣 .C #in-place·lesser) (Lesser 𝓤 H A at-mem run) → Triple 𝓤 (𝓣 .C #in-place·run-batch) (Batch 𝓤 H A at-mem run)
     → Meets 𝓤 H A some.signature (WpFn 𝓤 H (𝓣 .C) (𝓣 .Λ) code.function) (some.spec 𝓤 H A at-mem run)
 some-meets 𝓤 H A W at-mem run 𝓣 known-lesser known =
     walk-meets 𝓤 H A some.ended stayed W (goes-on 𝓤 H A W at-mem run) (some.clauses 𝓤 H A at-mem run)
@@ -939,10 +939,10 @@ pub run-some-spec : {M : Type 1} → stated.statement M
 unfolding code.routine tablesOf
 run-some-spec 𝓤 H 𝓜 𝓖 𝓡 =
     entered 𝓤 H (tripleOf 𝓤 H (𝓖 .A) some.signature (some.spec 𝓤 H (𝓖 .A) (𝓜 .mem) (𝓡 .run)))
-    (tables 𝓤 H 𝓜 𝓡 code.env .C) (tables 𝓤 H 𝓜 𝓡 code.env .Λ) #lent·run-some code.function (code.unfolded 𝓤 H 𝓜 𝓡)
+    (tables 𝓤 H 𝓜 𝓡 code.env .C) (tables 𝓤 H 𝓜 𝓡 code.env .Λ) #in-place·run-some code.function (code.unfolded 𝓤 H 𝓜 𝓡)
     (some-meets 𝓤 H (𝓖 .A) (givenOf 𝓤 H 𝓜 𝓖) (𝓜 .mem) (𝓡 .run) (tablesOf 𝓤 H 𝓜 (tables 𝓤 H 𝓜 𝓡 code.env))
-    (cited 𝓤 H (Lesser 𝓤 H (𝓖 .A) (𝓜 .mem) (𝓡 .run)) 𝓜 𝓡 code.env #lent·lesser lesser-def.routine code.calls-lent·lesser (lesser-thm.met 𝓤 H 𝓜 𝓖 𝓡))
-    (cited 𝓤 H (Batch 𝓤 H (𝓖 .A) (𝓜 .mem) (𝓡 .run)) 𝓜 𝓡 code.env #lent·run-batch batch-def.routine code.calls-lent·run-batch (batch-thm.met 𝓤 H 𝓜 𝓖 𝓡)))''')
+    (cited 𝓤 H (Lesser 𝓤 H (𝓖 .A) (𝓜 .mem) (𝓡 .run)) 𝓜 𝓡 code.env #in-place·lesser lesser-def.routine code.calls-in-place·lesser (lesser-thm.met 𝓤 H 𝓜 𝓖 𝓡))
+    (cited 𝓤 H (Batch 𝓤 H (𝓖 .A) (𝓜 .mem) (𝓡 .run)) 𝓜 𝓡 code.env #in-place·run-batch batch-def.routine code.calls-in-place·run-batch (batch-thm.met 𝓤 H 𝓜 𝓖 𝓡)))''')
     return '\n'.join(o) + '\n'
 
 
@@ -1040,7 +1040,7 @@ vL x = sliceVal (x .ptr) (length (x .now))
 ''' % (cross(['RefT Target', 'Event'] + lists), tup(['ref', 'e'] + names), tup(['ν ∷ []'] + κs), tup(['fullShare'] + qs), tup(['vptr l 0 ∷ []', 'vE e ∷ []'] + slvals),
         lst(['‵ (flft (ν ∷ []) fullShare)', '(%s)' % ' ⊛ '.join(toks), rf, rest(0)]), lst(['‵ (flft (ν ∷ []) fullShare)', '(%s)' % ' ⊛ '.join(toks), rf, rest(1)])))
     pv = lst(['vT t', 'vE e'] + ['vL ' + s for s in names])
-    w('  module _ (C : Calls 𝓤 H) (Λ : Loops 𝓤 H) (fm : FmC 𝓤 H (W .laws) C) (known : Triple 𝓤 (C #lent·step-in-place) (InPlace 𝓤 H A at-mem run)) where')
+    w('  module _ (C : Calls 𝓤 H) (Λ : Loops 𝓤 H) (fm : FmC 𝓤 H (W .laws) C) (known : Triple 𝓤 (C #in-place·step-in-place) (InPlace 𝓤 H A at-mem run)) where')
     w('    walk : Is T.the-row t (vT t ∷ []) → Is E.the-row e (vE e ∷ []) → %s' % ' → '.join('Room u8 (length (%s .now))' % s for s in names))
     w('        → ent 𝓤 (onEntry 𝓤 H A lent.signature %s %s x at) (WpFn 𝓤 H C Λ code.function (%s) Post)' % (tup(κs), tup(qs), pv))
     w('    walk is-t is-e %s =' % ' '.join('room-' + s for s in names))
@@ -1091,7 +1091,7 @@ vL x = sliceVal (x .ptr) (length (x .now))
     w('        keep ! (%s) $ by ! (exits r %s says-so %s is)%s\n' % (lst([c.at(y) for y in ['toks'] + ['fin-' + s for s in muts]]), zz, ' '.join('l-' + s for s in muts), c.close()))
     tells = ['LL.tells T.the-type T′.the-laws', 'LL.tells E.the-type E′.the-laws'] + ['%s (named %d) (%s) u8' % ('mut-slice-tells' if k == 'mut' else 'shr-slice-tells', i, proj('κs', i)) for i, (s, k) in enumerate(slices)]
     w('''module _ {M : Type 1} (𝓤 : URA M) (H : Heap 𝓤) (A : Atoms 𝓤) (W : Given 𝓤 H A) (at-mem : Memory → SProp 𝓤) (run : Routine → Fun 𝓤) where
-  lent-walks : (C : Calls 𝓤 H) (Λ : Loops 𝓤 H) → FmC 𝓤 H (W .laws) C → Triple 𝓤 (C #lent·step-in-place) (InPlace 𝓤 H A at-mem run) → Walks 𝓤 H A lent.ended stayed (WpFn 𝓤 H C Λ code.function) (lent.clauses 𝓤 H A at-mem run)
+  lent-walks : (C : Calls 𝓤 H) (Λ : Loops 𝓤 H) → FmC 𝓤 H (W .laws) C → Triple 𝓤 (C #in-place·step-in-place) (InPlace 𝓤 H A at-mem run) → Walks 𝓤 H A lent.ended stayed (WpFn 𝓤 H C Λ code.function) (lent.clauses 𝓤 H A at-mem run)
   lent-walks C Λ fm known = walked 𝓤 H A lent.ended stayed (lent.clauses 𝓤 H A at-mem run) (WpFn 𝓤 H C Λ code.function)
       (λ κs. %s)
       (λ κs. %s)
@@ -1103,7 +1103,7 @@ vL x = sliceVal (x .ptr) (length (x .now))
       %s
 ''' % (tup(['LL.vals T.the-type T′.the-laws', 'LL.vals E.the-type E′.the-laws'] + ['slice-vals'] * m), tup(tells), ' '.join('(%s)' % proj(v, i) for v, q in [('κs', m), ('qs', m), ('a', m + 2)] for i in range(q)), ' '.join('(%s .0 .1)' % proj('are', 2 + i) for i in range(m)), m,
         tup(['goes-dropped 𝓤 H A W %d (plain (λ _. T.the-row)) yes (λ κs x f. refl)' % m, 'goes-dropped 𝓤 H A W %d (plain (λ _. E.the-row)) yes (λ κs x f. refl)' % m] + ['goes-gave-slice 𝓤 H A W %d %d tt (plain (λ _. u8))' % (m, i) if k == 'mut' else 'goes-dropped 𝓤 H A W %d (%s) yes (λ κs x f. refl)' % (m, slot(k, i)) for i, (s, k) in enumerate(slices)]).replace(', (goes', ',\n      (goes')))
-    w('''lent-meets : {M : Type 1} (𝓤 : URA M) (H : Heap 𝓤) (A : Atoms 𝓤) → Given 𝓤 H A → (at-mem : Memory → SProp 𝓤) (run : Routine → Fun 𝓤) (𝓣 : Tables 𝓤 H) → Triple 𝓤 (𝓣 .C #lent·step-in-place) (InPlace 𝓤 H A at-mem run)
+    w('''lent-meets : {M : Type 1} (𝓤 : URA M) (H : Heap 𝓤) (A : Atoms 𝓤) → Given 𝓤 H A → (at-mem : Memory → SProp 𝓤) (run : Routine → Fun 𝓤) (𝓣 : Tables 𝓤 H) → Triple 𝓤 (𝓣 .C #in-place·step-in-place) (InPlace 𝓤 H A at-mem run)
     → Meets 𝓤 H A lent.signature (WpFn 𝓤 H (𝓣 .C) (𝓣 .Λ) code.function) (lent.spec 𝓤 H A at-mem run)
 lent-meets 𝓤 H A W at-mem run 𝓣 known =
     walk-meets 𝓤 H A lent.ended stayed W (goes-on 𝓤 H A W at-mem run) (lent.clauses 𝓤 H A at-mem run)
@@ -1113,9 +1113,9 @@ pub step-lent-spec : {M : Type 1} → stated.statement M
 unfolding code.routine tablesOf
 step-lent-spec 𝓤 H 𝓜 𝓖 𝓡 =
     entered 𝓤 H (tripleOf 𝓤 H (𝓖 .A) lent.signature (lent.spec 𝓤 H (𝓖 .A) (𝓜 .mem) (𝓡 .run)))
-    (tables 𝓤 H 𝓜 𝓡 code.env .C) (tables 𝓤 H 𝓜 𝓡 code.env .Λ) #lent·step-lent code.function (code.unfolded 𝓤 H 𝓜 𝓡)
+    (tables 𝓤 H 𝓜 𝓡 code.env .C) (tables 𝓤 H 𝓜 𝓡 code.env .Λ) #in-place·step-lent code.function (code.unfolded 𝓤 H 𝓜 𝓡)
     (lent-meets 𝓤 H (𝓖 .A) (givenOf 𝓤 H 𝓜 𝓖) (𝓜 .mem) (𝓡 .run) (tablesOf 𝓤 H 𝓜 (tables 𝓤 H 𝓜 𝓡 code.env))
-    (cited 𝓤 H (InPlace 𝓤 H (𝓖 .A) (𝓜 .mem) (𝓡 .run)) 𝓜 𝓡 code.env #lent·step-in-place in-place-def.routine code.calls-lent·step-in-place (in-place-thm.met 𝓤 H 𝓜 𝓖 𝓡)))''')
+    (cited 𝓤 H (InPlace 𝓤 H (𝓖 .A) (𝓜 .mem) (𝓡 .run)) 𝓜 𝓡 code.env #in-place·step-in-place in-place-def.routine code.calls-in-place·step-in-place (in-place-thm.met 𝓤 H 𝓜 𝓖 𝓡)))''')
     return '\n'.join(o) + '\n'
 
 
