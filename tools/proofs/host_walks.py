@@ -4,8 +4,8 @@ nib_rest.
 
 Each exported function copies the record out (power-on does not), passes it on by value with its other parameters,
 stores the record of the answer back and returns the answer; `nib_rest` only reads its record. What a walk says stands
-in the templates host_export and host_rest beside this script, with the places in the context left open (context.py). What
-comes out is plain antt, which `rt` checks like any other proof.
+in the templates host_export and host_rest beside this script, with the places in the context left open (context.py).
+What comes out is plain antt, which `rt` checks like any other proof.
 
     python3 tools/proofs/host_walks.py crates/host/proofs
     rt fmt

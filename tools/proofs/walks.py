@@ -144,8 +144,8 @@ def batch(slices):
     room = ['room-' + s for s in names]
     stays = (['stay-dropped (plain (λ _. T.the-row)) yes',
             'stay-dropped (shrSliceOf (0 ∷ []) tt (plain (λ _. E.the-row))) yes']
-        + ['stay-slice (%d ∷ []) tt (plain (λ _. u8))' % j[s] if k == 'mut' else 'stay-dropped (%s) yes' % slot(k,
-            j[s]) for s, k in slices])
+        + ['stay-slice (%d ∷ []) tt (plain (λ _. u8))' % j[s] if k == 'mut'
+           else 'stay-dropped (%s) yes' % slot(k, j[s]) for s, k in slices])
     had = lst([lft(s) for s in ['events'] + names] + [own(s, 'x') for s in muts])
     νs, δs = ['ν-' + s for s in muts], ['δ-' + s for s in muts]
     lent = lambda s: 'Lent ν-%s δ-%s %s (%s)' % (s, s, s, at('x', s))
@@ -155,8 +155,7 @@ def batch(slices):
     oneown = [lent(s) if k == 'mut' else shr(s) for s, k in slices]
     zl = ' '.join('z-' + s for s in muts)
     ty = {0: 'N′.mir', 1: 'T′.mir', 2: 'ev-slice', N: 'P′.mir', I: 'word', L1: 'word', L2: 'word', B: 'tyBool',
-        MUL: 'word',
-          PTR: 'tyPtr', EV: 'E′.mir', **{par[s]: slice_type(j[s], k) for s, k in slices},
+          MUL: 'word', PTR: 'tyPtr', EV: 'E′.mir', **{par[s]: slice_type(j[s], k) for s, k in slices},
           **{ref[s]: 'byte-ref' for s in muts}, **{ref[s] + 1: 'slice erased mut' for s in muts}}
     vl = {1: '(vT (x .s .target))', 2: '(vL events)', N: '(vP p)', I: '(vint w64 (x .s .done))',
           **{par[s]: '(vL %s)' % s for s in names}}
