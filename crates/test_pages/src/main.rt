@@ -1,6 +1,7 @@
 // Runs the parameter page's functions and power-on on many pages, and writes a line for each. The file `stdout` has the lines
 // that tools/expect/pages.py, a second program written from document 01's words, expects; it has the same list of cases.
 mod cases;
+mod crcs;
 mod makers;
 mod parts;
 mod powers;
@@ -15,10 +16,14 @@ use cases::lowest;
 use cases::many;
 use cases::outside;
 use cases::single;
+use crcs::entries;
+use crcs::knowns;
 use makers::draw_pages;
 use makers::makers_pages;
 
 fn main() {
+    entries();
+    knowns();
     makers_pages();
     draw_pages();
     accepted();
