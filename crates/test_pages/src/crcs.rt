@@ -7,7 +7,7 @@ use test_kit::write::text;
 // An entry of the CRC's table: 4Fh takes the start value to 4E00h, and the next byte looks up its place alone.
 fn entry(i: u8) {
     small(b"entry ", i);
-    hexed(b" ", crc_of(&[0x4f, 0x4e ^ i]));
+    hexed(b" ", crc_of(&[0x4f, 0x4e ^ i]) as usize);
     text(b"\n");
 }
 
@@ -20,7 +20,7 @@ pub fn entries() {
 
 fn known(label: &[u8], s: &[u8]) {
     text(label);
-    hexed(b" ", crc_of(s));
+    hexed(b" ", crc_of(s) as usize);
     text(b"\n");
 }
 
