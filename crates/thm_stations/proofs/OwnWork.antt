@@ -13,6 +13,7 @@ use Rattle.slices.proofs.Anded.{length-and}
 use Rattle.slices.proofs.Splice.{piece}
 use Rattle.slices.proofs.Parts.{parts-alike, getD-alike, set-splice}
 use Rattle.target.specs.Address.{lunOf, rowExists}
+use Rattle.target.specs.Sizes.{pageSize}
 use Rattle.target.specs.declared.Geometry.{Geometry}
 use Rattle.target.specs.declared.Row.{Row}
 use Rattle.target.specs.declared.Work.{Work}
@@ -38,32 +39,32 @@ Mine g l (Erase r) = lunOf g r ≡ l
 
 module _ (g : Geometry) (b c : Buffers) (sizes : SizesOf g b) (sizesʳ : SizesOf g c) where
   -- the page and the count of a row
-  page-alike : (r : Row) → rowExists g r ≡ true → Parts g (lunOf g r) b c → part (b .array) (pageIndex g r * g .page) (g .page) ≡ part (c .array) (pageIndex g r * g .page) (g .page)
-  page-alike r there a = parts-alike (b .array) (c .array) (lunOf g r * lunBytes g) (lunBytes g) (a .array) _ (g .page) (page-bytes-low g r) (page-bytes-high g r there)
+  page-alike : (r : Row) → rowExists g r ≡ true → Parts g (lunOf g r) b c → part (b .array) (pageIndex g r * pageSize g) (pageSize g) ≡ part (c .array) (pageIndex g r * pageSize g) (pageSize g)
+  page-alike r there a = parts-alike (b .array) (c .array) (lunOf g r * lunBytes g) (lunBytes g) (a .array) _ (pageSize g) (page-bytes-low g r) (page-bytes-high g r there)
 
   pub count-alike : (r : Row) → rowExists g r ≡ true → Parts g (lunOf g r) b c → getD (b .counts) (pageIndex g r) 0 ≡ getD (c .counts) (pageIndex g r) 0
   count-alike r there a = rw (page-place g r) (getD-alike (b .counts) (c .counts) (lunOf g r * lunPages g) (lunPages g) (a .counts) (pageWithin g r) (page-within g r there))
 
   -- a whole register is replaced
-  replaced : (l : ℕ) (new newʳ : List ℕ) → new ≡ newʳ → length new ≡ g .page → Edit (g .page) l (b .registers) (c .registers) (splice (b .registers) (l * g .page) (g .page) new) (splice (c .registers) (l * g .page) (g .page) newʳ)
-  replaced l new newʳ e same = put-alike (l * g .page) (g .page) new newʳ e (le-refl _) (le-refl _) same
+  replaced : (l : ℕ) (new newʳ : List ℕ) → new ≡ newʳ → length new ≡ pageSize g → Edit (pageSize g) l (b .registers) (c .registers) (splice (b .registers) (l * pageSize g) (pageSize g) new) (splice (c .registers) (l * pageSize g) (pageSize g) newʳ)
+  replaced l new newʳ e same = put-alike (l * pageSize g) (pageSize g) new newʳ e (le-refl _) (le-refl _) same
 
-  register-length : (l : ℕ) → l < g .luns → length (part (b .registers) (l * g .page) (g .page)) ≡ g .page
-  register-length l h = part-length (b .registers) (l * g .page) (g .page) (omega (arith, piece (g .page) h, sizes .registers-size))
+  register-length : (l : ℕ) → l < g .luns → length (part (b .registers) (l * pageSize g) (pageSize g)) ≡ pageSize g
+  register-length l h = part-length (b .registers) (l * pageSize g) (pageSize g) (omega (arith, piece (pageSize g) h, sizes .registers-size))
 
-  page-length : (r : Row) → rowExists g r ≡ true → length (part (b .array) (pageIndex g r * g .page) (g .page)) ≡ g .page
-  page-length r there = part-length (b .array) (pageIndex g r * g .page) (g .page) (omega (arith, page-bytes-end g r there, sizes .array-size))
+  page-length : (r : Row) → rowExists g r ≡ true → length (part (b .array) (pageIndex g r * pageSize g) (pageSize g)) ≡ pageSize g
+  page-length r there = part-length (b .array) (pageIndex g r * pageSize g) (pageSize g) (omega (arith, page-bytes-end g r there, sizes .array-size))
 
-  registers-edit : (w : Work) (l : ℕ) → Ready g w (b .counts) → Mine g l w → Parts g l b c → Edit (g .page) l (b .registers) (c .registers) (registersAfter g w (b .array) (b .registers)) (registersAfter g w (c .array) (c .registers))
+  registers-edit : (w : Work) (l : ℕ) → Ready g w (b .counts) → Mine g l w → Parts g l b c → Edit (pageSize g) l (b .registers) (c .registers) (registersAfter g w (b .array) (b .registers)) (registersAfter g w (c .array) (c .registers))
   unfolding registersAfter Ready Mine
   registers-edit Nothing l ok mine a = as-is
   registers-edit ClearAll l ok mine a = absurd mine
-  registers-edit (ClearOne m) l ok mine a = rw (← mine) (replaced m _ _ refl (length-replicate (g .page) 0xff))
+  registers-edit (ClearOne m) l ok mine a = rw (← mine) (replaced m _ _ refl (length-replicate (pageSize g) 0xff))
   registers-edit (Load r) l ok mine a = rw (← mine) (replaced (lunOf g r) _ _ (page-alike r ok (rw mine a)) (page-length r ok))
   registers-edit (Put m k v) l ok mine a =
       let here : Parts g m b c = rw mine a in
       rw (← mine)
-      (replaced m _ _ (ap (λ (s : List ℕ). set s (k .0) v) (here .registers)) (length-set (part (b .registers) (m * g .page) (g .page)) (k .0) v ∙ register-length m (ok .0)))
+      (replaced m _ _ (ap (λ (s : List ℕ). set s (k .0) v) (here .registers)) (length-set (part (b .registers) (m * pageSize g) (pageSize g)) (k .0) v ∙ register-length m (ok .0)))
   registers-edit (Program r) l ok mine a = as-is
   registers-edit (Erase r) l ok mine a = as-is
 
@@ -76,11 +77,11 @@ module _ (g : Geometry) (b c : Buffers) (sizes : SizesOf g b) (sizesʳ : SizesOf
   array-edit (Put m k v) l ok mine a = as-is
   array-edit (Program r) l ok mine a =
       let here : Parts g (lunOf g r) b c = rw mine a in
-      let old = part (b .array) (pageIndex g r * g .page) (g .page) in
+      let old = part (b .array) (pageIndex g r * pageSize g) (pageSize g) in
       rw (← mine)
-      (put-alike _ (g .page) _ _ (λ i. andBytes (page-alike r (ok .0) here i) (here .registers i)) (page-bytes-low g r) (page-bytes-high g r (ok .0)) (length-and old _ ∙ page-length r (ok .0)))
+      (put-alike _ (pageSize g) _ _ (λ i. andBytes (page-alike r (ok .0) here i) (here .registers i)) (page-bytes-low g r) (page-bytes-high g r (ok .0)) (length-and old _ ∙ page-length r (ok .0)))
   array-edit (Erase r) l ok mine a =
-      rw (← mine) (put _ (g .pages * g .page) _ (block-bytes-low g r) (block-bytes-high g r ok) (length-replicate _ _))
+      rw (← mine) (put _ (g .pages * pageSize g) _ (block-bytes-low g r) (block-bytes-high g r ok) (length-replicate _ _))
 
   counts-edit : (w : Work) (l : ℕ) → Ready g w (b .counts) → Mine g l w → Parts g l b c → Edit (lunPages g) l (b .counts) (c .counts) (countsAfter g w (b .counts)) (countsAfter g w (c .counts))
   unfolding countsAfter Ready Mine

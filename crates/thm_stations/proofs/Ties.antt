@@ -8,7 +8,9 @@ use Rattle.target.specs.declared.Decoder.{Decoder}
 use Rattle.target.specs.declared.Geometry.{Geometry}
 use Rattle.target.specs.declared.Sequence.the-variants.{Idle}
 use Rattle.thm_stations.specs.Jobs.{Cycle, eventOf, finishOf, Job, cycles, lunNamed}
-use Rattle.thm_stations.specs.Isolated.{State, outcome, next}
+use Rattle.step.specs.Step.{State}
+use Rattle.thm_demands.specs.Runs.{stepAt}
+use Rattle.thm_stations.specs.Isolated.{next}
 
 -- no sequence is open
 abbrev pub Quiet : Decoder → Type 0
@@ -31,7 +33,7 @@ pub record Laws (params flags : List ℕ) (g : Geometry) (t : Ties) : Type 0 whe
   pub chain : {l : ℕ} {s u w : State} → t .Agree l s u → t .Agree l u w → t .Agree l s w
   -- an event of the l-th LUN, seen by that LUN and by another
   pub turn : {l : ℕ} {s u : State} {e : Event} → t .Moves l s u e → t .Moves l u s e
-  pub answers : {l : ℕ} {s u : State} {e : Event} → t .Moves l s u e → outcome params flags s e .reply ≡ outcome params flags u e .reply
+  pub answers : {l : ℕ} {s u : State} {e : Event} → t .Moves l s u e → stepAt params flags s e .reply ≡ stepAt params flags u e .reply
   pub both : {l : ℕ} {s u : State} {e : Event} → t .Agree l s u → t .Moves l s u e → t .Agree l (next params flags s e) (next params flags u e)
   pub apart : {k l : ℕ} {s u w : State} {e : Event} → (k ≡ l → ⊥) → t .Agree k s w → t .Moves l s u e → t .Agree k (next params flags s e) w
   -- a cycle of a job
