@@ -40,12 +40,12 @@ use Rattle.rules.specs.Rules.{fits, outputEnded, pastEnd}
 use Rattle.effects.specs.Effects.{sequenceAfter, endedOutput, firstOutput, commandOutput, outputAfter, begun, endedLuns, lunsAfter, clearSet, clearAfter, highAfter, targetAfter, acted, endedWork, firstWork, commandWork, addressWork, dataWork, workOf}
 use Rattle.step.specs.Usable.{sequenceSound}
 use Rattle.step.specs.Buffers.{pageFull, blockBad, proceeds, endedFindings, findings, statusOf, outputByte}
-use Rattle.step.specs.Step.{Buffers, replyOf}
+use Rattle.step.specs.Step.{Buffers, replyOf, Reaches, EnderReaches}
+use Rattle.step.proofs.WorkReady.{ender-reaches}
 use Rattle.thm_kept.proofs.Choice.{by-pick}
 use Rattle.thm_stations.specs.Jobs.{Cycle, command, address, dataIn, dataOut, eventOf}
 use Rattle.thm_stations.proofs.Agreement.{Parts, SizesOf}
 use Rattle.thm_stations.proofs.OwnWork.{Mine, count-alike}
-use Rattle.thm_stations.proofs.EndedRows.{ActRow, EnderRow, ender-row}
 use Rattle.thm_stations.proofs.Records.{Changed, as-were, become-by, changed-pick}
 use Rattle.thm_stations.proofs.Halves.{Fixed, fixedOf, made, refixed}
 use Rattle.thm_stations.proofs.Course.{decoder, isNobody, aimedFound, Plain, plainly, EndedOf, GivenOf, TakerOf, OutputOf, CycleOf, Course, Spared, spared-behind, Standing, equal, Alike}
@@ -153,22 +153,23 @@ module _ (g : Geometry) (l : ℕ) (flags : List ℕ) (B C : Buffers) (sizes : Si
   unfolding pageFull
   full-alike r there q = ap (leb (g .programs)) (count-alike g B C sizes sizesʳ r there (rw q agree))
 
-  -- a program that ends has a row that exists
-  proceeds-alike : (a : Act) (r : Row) → ActRow g a r → lunOf g r ≡ l → proceeds g a r (B .counts) flags ≡ proceeds g a r (C .counts) flags
+  -- a program looks at its page, which exists
+  proceeds-alike : (a : Act) (r : Row) → Reaches g a r → lunOf g r ≡ l → proceeds g a r (B .counts) flags ≡ proceeds g a r (C .counts) flags
+  unfolding Reaches
   proceeds-alike act.Nothing r there q = refl
   proceeds-alike act.Load r there q = refl
   proceeds-alike act.Program r there q = ap (λ (full : Bool). not (blockBad g r flags || full)) (full-alike r there q)
   proceeds-alike act.Erase r there q = refl
   proceeds-alike act.Move r there q = refl
 
-  ended-findings : (x : Ender) → EnderRow g x → EndedOf g l x → endedFindings g x (B .counts) flags ≡ endedFindings g x (C .counts) flags
-  unfolding EndedOf
+  ended-findings : (x : Ender) → EnderReaches g x → EndedOf g l x → endedFindings g x (B .counts) flags ≡ endedFindings g x (C .counts) flags
+  unfolding EndedOf EnderReaches
   ended-findings ender.Nothing there w = refl
   ended-findings (ender.By k) there w = ap (λ (b : Bool). record { proceeds = b }) (proceeds-alike (secondRow (k .second) .act) (k .row) there (w .1))
 
   pub findings-alike : (s : Sequence) (o : Output) (c : Cycle) → sequenceSound g s ≡ true → CycleOf g l c s o → findings g s (eventOf c) (B .counts) flags ≡ findings g s (eventOf c) (C .counts) flags
   unfolding CycleOf findings
-  findings-alike s o (command v) ok keeps = ended-findings (ending s v) (ender-row g s v ok) (keeps .1)
+  findings-alike s o (command v) ok keeps = ended-findings (ending s v) (ender-reaches g s v ok) (keeps .1)
   findings-alike s o (address v) ok keeps = refl
   findings-alike s o (dataIn v) ok keeps = refl
   findings-alike s o dataOut ok keeps = refl

@@ -10,7 +10,6 @@ pub mod Records
 pub mod Halves
 pub mod Course
 pub mod Jobs
-pub mod EndedRows
 pub mod Verdicts
 pub mod Effects
 pub mod Steps
