@@ -38,10 +38,13 @@ extern "C" {
  *
  * Plain numbers: it may be copied, stored, compared byte by byte (padding aside) and written to a file for the same kind of
  * machine. A new record is made by nib_power_on, which reads nothing of what was there before. Reading it is welcome; whoever
- * writes to it gets 13, or a target in the state that was written. 112 bytes where size_t has 8. */
+ * writes to it gets 13, or a target in the state that was written. 104 bytes where size_t has 8. */
 typedef struct nib_target {
     /* The part, as its page says. */
-    size_t page;            /* P: data plus spare bytes of a page */
+    uint16_t data_bytes;    /* of a page: 16 to 16384 */
+    uint16_t spare_bytes;   /* of a page: 0 to 2048 */
+    uint16_t features;      /* features supported: bytes 6 and 7, of which enum nib_feature names bits */
+    uint16_t optional_commands;     /* optional commands supported: bytes 8 and 9, of which enum nib_optional names bits */
     size_t pages;           /* a block */
     size_t blocks;          /* a LUN */
     size_t luns;            /* 1 to 4 */
@@ -53,10 +56,6 @@ typedef struct nib_target {
     size_t output_at;       /* place of the next byte that comes out; 0 where the output has none */
     /* 0 or 1, each of them, down to fail. */
     uint8_t powered;        /* 0: every event is refused with 13 */
-    uint8_t look;           /* the part offers 78h */
-    uint8_t fetch;          /* the part offers 06h */
-    uint8_t features;       /* the part offers EEh and EFh */
-    uint8_t can_clear;      /* the part offers program-clear, 40h as the first byte of feature 01h */
     uint8_t high;           /* the protect line is high: programs and erases are allowed */
     uint8_t clear;          /* program-clear is on: 80h clears the addressed LUN's register alone */
     uint8_t seen;           /* the first FFh has come */
@@ -66,12 +65,40 @@ typedef struct nib_target {
     uint8_t maker, device;
     /* The open sequence. */
     uint8_t sequence;       /* enum nib_sequence */
-    uint8_t first;          /* its first command, as 0 to 10: 00h 05h 06h 60h 70h 78h 80h 90h ECh EEh EFh; 0 where it has none */
+    uint8_t first;          /* enum nib_first; 0 where it has none */
     uint8_t got;            /* address cycles or feature bytes of it that have come */
     uint8_t low, mid;       /* the bytes of a half-given address */
     uint8_t value;          /* the first byte of a half-given feature */
     uint8_t output;         /* enum nib_output: what data-out cycles give */
 } nib_target;
+
+/* Features supported, bits of bytes 6 and 7 of the parameter bytes. */
+enum nib_feature {
+    NIB_FEATURE_WIDE_BUS = 1 << 0,          /* 16 bits: the model has no such part */
+    NIB_FEATURE_MORE_LUNS = 1 << 1,         /* more LUNs than one */
+    NIB_FEATURE_PROGRAM_CLEAR = 1 << 8      /* 80h may clear the addressed LUN's register alone */
+};
+
+/* Optional commands supported, bits of bytes 8 and 9. */
+enum nib_optional {
+    NIB_OPTIONAL_FEATURES = 1 << 2,                 /* EEh and EFh: get features, set features */
+    NIB_OPTIONAL_STATUS_ENHANCED = 1 << 3,          /* 78h: read status enhanced */
+    NIB_OPTIONAL_CHANGE_COLUMN_ENHANCED = 1 << 6    /* 06h: change read column enhanced */
+};
+
+enum nib_first {
+    NIB_FIRST_READ = 0,                     /* 00h */
+    NIB_FIRST_CHANGE_COLUMN = 1,            /* 05h: change read column */
+    NIB_FIRST_CHANGE_COLUMN_ENHANCED = 2,   /* 06h: change read column enhanced */
+    NIB_FIRST_ERASE = 3,                    /* 60h */
+    NIB_FIRST_STATUS = 4,                   /* 70h */
+    NIB_FIRST_STATUS_ENHANCED = 5,          /* 78h: read status enhanced */
+    NIB_FIRST_PROGRAM = 6,                  /* 80h */
+    NIB_FIRST_READ_ID = 7,                  /* 90h */
+    NIB_FIRST_PARAMETER_PAGE = 8,           /* ECh */
+    NIB_FIRST_GET_FEATURES = 9,             /* EEh */
+    NIB_FIRST_SET_FEATURES = 10             /* EFh */
+};
 
 enum nib_sequence {
     NIB_SEQUENCE_NONE = 0,

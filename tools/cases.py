@@ -1097,7 +1097,8 @@ kept()
 # "Or a number in the record, taken by itself, is one that no run with that geometry gives it". The record's numbers, as the
 # table's R words name them.
 RECORD = {
-    'powered': 0, 'P': 1, 'pages': 2, 'blocks': 3, 'LUNs': 4, 'programs': 5, 'selected': 6, 'LUN 2 works': 7, 'LUN 3 failed': 8,
+    'powered': 0, 'data bytes': 1, 'pages': 2, 'blocks': 3, 'LUNs': 4, 'programs': 5, 'selected': 6, 'LUN 2 works': 7, 'LUN 3 failed': 8,
+    'features': 9, 'optional commands': 10,
     # the output is the register of LUN 0 from a column on, that of a LUN from column 0 on, the parameter page, a LUN's status,
     # IDs, the signature, the feature, each from a place on
     'register column': 0x10, 'register LUN': 0x11, 'parameter place': 0x12, 'status LUN': 0x13, 'ID place': 0x14,
@@ -1136,7 +1137,7 @@ case('13: not powered, sizes outside the house limits')
 bad('powered', 0)
 fine('powered', 1, c(0x70) + given(0xE0))
 # Lengths are lent as the changed sizes would have them (array, registers, counts, flags), so that the limit alone refuses.
-bad('P', 15, [120, 30, 8, 4])
+bad('data bytes', 15, [120, 30, 8, 4])
 bad('pages', 0, [0, 32, 0, 4])
 bad('blocks', 0, [0, 32, 0, 0])
 bad('LUNs', 0, [0, 0, 0, 0])
@@ -1146,9 +1147,19 @@ bad('programs', 9)
 fine('programs', 1, program(5, 0, 0) + f(1) + c(0x70) + given(0xE1))
 fine('programs', 8, program(1, 0, 0) + f(0) + c(0x70) + given(0xE0))
 # And with the lengths that were lent before, a size within the limits is refused for them.
-for name in ('P', 'pages', 'blocks', 'LUNs'):
-    bad(name, 17 if name == 'P' else 1)
+for name in ('data bytes', 'pages', 'blocks', 'LUNs'):
+    bad(name, 17 if name == 'data bytes' else 1)
     bad(name, 0xFFFF)
+
+case('13: words')
+# feature bit 0 is the 16-bit bus; bit 1 allows more LUNs than one
+bad('features', 0x0103)
+bad('features', 0x0100)
+bad('features', 0x0000)
+fine('features', 0xFFFE, c(0x70) + given(0xE0))
+fine('features', 0x0002, c(0xEF) + a(0x01) + refused(i(0x40), 9))
+fine('optional commands', 0x0000, refused(c(0x78), 1) + refused(c(0x06), 1) + refused(c(0xEE), 1) + refused(c(0xEF), 1))
+fine('optional commands', 0xFFFF, c(0x78) + row(0) + given(0xE0))
 
 case('13: LUNs')
 bad('selected', 2)
@@ -1229,7 +1240,7 @@ line('E', ['02', '03'])
 line('Y', ['4:10'])
 
 text = '\n'.join(OUT) + '\n'
-path = os.path.join(os.path.dirname(os.path.dirname(os.path.abspath(__file__))), 'crates', 'cases', 'data', 'table')
+path = os.path.join(os.path.dirname(os.path.dirname(os.path.abspath(__file__))), 'crates', 'test_table', 'data', 'table')
 if sys.argv[1:] == ['--check']:
     with open(path) as stored:
         sys.exit(0 if stored.read() == text else 'crates/test_table/data/table is not what this script writes')

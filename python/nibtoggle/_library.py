@@ -15,13 +15,14 @@ class Target(ctypes.Structure):
     """`nib_target` of include/nibtoggle.h, which says what each number means."""
 
     _fields_ = [
+        (name, ctypes.c_uint16)
+        for name in ("data_bytes", "spare_bytes", "features", "optional_commands")
+    ] + [
         (name, _size)
-        for name in (
-            "page", "pages", "blocks", "luns", "programs", "selected", "column", "row", "output_lun", "output_at",
-        )
+        for name in ("pages", "blocks", "luns", "programs", "selected", "column", "row", "output_lun", "output_at")
     ] + [
         (name, _byte)
-        for name in ("powered", "look", "fetch", "features", "can_clear", "high", "clear", "seen")
+        for name in ("powered", "high", "clear", "seen")
     ] + [
         ("working", _byte * 4),
         ("fail", _byte * 4),

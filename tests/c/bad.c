@@ -32,7 +32,9 @@
 #endif
 
 /* The record without the padding at its end, which says nothing. */
-enum { USED = offsetof(nib_target, output) + 1, SPARE = 80, GUARD = 0x5A, LONGEST = 4000 };
+enum { USED = offsetof(nib_target, output) + 1, /* its sizes and words come first, then its size_t numbers, then its bytes */
+       WORDS = offsetof(nib_target, pages) / sizeof(uint16_t),
+       NUMBERS = (offsetof(nib_target, powered) - offsetof(nib_target, pages)) / sizeof(size_t), SPARE = 80, GUARD = 0x5A, LONGEST = 4000 };
 
 static uint64_t state = 1;
 
@@ -416,7 +418,7 @@ static size_t some_number(const model *m)
 static void damage_record(model *m)
 {
     uint8_t *bytes = (uint8_t *)m->t;
-    switch (below(5)) {
+    switch (below(6)) {
     case 0:
         for (size_t i = 0; i < sizeof(nib_target); i++)
             bytes[i] = (uint8_t)random32();
@@ -429,9 +431,16 @@ static void damage_record(model *m)
         for (uint32_t n = 1 + below(3); n > 0; n--)
             bytes[offsetof(nib_target, powered) + below(USED - offsetof(nib_target, powered))] = (uint8_t)below(chance(80) ? 9 : 256);
         break;
-    case 3:
-        ((size_t *)m->t)[below(10)] = some_number(m);
+    case 3: {
+        size_t n = some_number(m);
+        memcpy(bytes + offsetof(nib_target, pages) + sizeof n * below(NUMBERS), &n, sizeof n);
         break;
+    }
+    case 4: {
+        uint16_t n = (uint16_t)(chance(50) ? some_number(m) : random32());
+        memcpy(bytes + sizeof n * below(WORDS), &n, sizeof n);
+        break;
+    }
     default:                    /* another sequence and output, with numbers that may fit it */
         m->t->sequence = (uint8_t)below(9);
         m->t->first = (uint8_t)below(12);

@@ -13,8 +13,8 @@ use Rattle.target.specs.declared.Target.{Target}
 use Rattle.target.specs.declared.Output.{Output}
 use Rattle.target.specs.declared.Output.the-variants as output
 use Rattle.target.specs.Pick.{pick}
-use Rattle.target.specs.Place.{works}
-use Rattle.target.specs.Sizes.{inLimits}
+use Rattle.target.specs.Luns.{works}
+use Rattle.target.specs.Sizes.{pageSize, inLimits}
 use Rattle.target.proofs.Both.{both}
 use Rattle.target.proofs.Limits.{Limits, limits, registers-all}
 use Rattle.step.specs.Usable.{recordSound, outputSound}
@@ -41,8 +41,8 @@ Small u = (u .at < 1073741824) × (u .count < 1073741824)
 small-in : (g : Geometry) (luns : List Lun) (o : Output) → Limits g → outputSound g o ≡ true → Small (unreadIn g luns o)
 small-in g luns output.Nothing m h = (omega arith, omega arith)
 small-in g luns (output.Register l c) m h =
-    by-pick Small (works luns l || leb (g .page) (c .0)) empty _ (λ _. (omega arith, omega arith))
-    (λ _. let k = register-place g l c h in (omega (arith, piece (g .page) (k .0), registers-all m, m .page-max, k .1), omega (arith, m .page-max)))
+    by-pick Small (works luns l || leb (pageSize g) (c .0)) empty _ (λ _. (omega arith, omega arith))
+    (λ _. let k = register-place g l c h in (omega (arith, piece (pageSize g) (k .0), registers-all m, m .page-max, k .1), omega (arith, m .page-max)))
 small-in g luns (output.Parameters at) m h = by-pick Small (leb 768 at) empty _ (λ _. (omega arith, omega arith)) (λ _. (omega arith, omega arith))
 small-in g luns (output.Status l) m h = (omega arith, omega arith)
 small-in g luns (output.Ids at) m h = (omega arith, omega arith)
@@ -53,7 +53,7 @@ pub small-rest : (t : Target) (params registers : ℕ) → Small (unreadOf t par
 unfolding unreadOf readable
 small-rest t params registers =
     by-pick Small (readable t params registers) (unreadIn (t .geometry) (t .luns) (t .decoder .output)) empty
-    (λ h. let k = sound t (both (recordSound t) (eqb params 256 && eqb registers (t .geometry .luns * t .geometry .page)) h .0) in small-in (t .geometry) (t .luns) (t .decoder .output) (limits (t .geometry) (k .limited)) (k .output))
+    (λ h. let k = sound t (both (recordSound t) (eqb params 256 && eqb registers (t .geometry .luns * pageSize (t .geometry))) h .0) in small-in (t .geometry) (t .luns) (t .decoder .output) (limits (t .geometry) (k .limited)) (k .output))
     (λ _. (omega arith, omega arith))
 
 -- so the number is the buffer, the start and the length side by side

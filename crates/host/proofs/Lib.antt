@@ -1,3 +1,4 @@
+pub mod Commands
 pub mod Laws
 pub mod Shown
 pub mod Packing

@@ -15,9 +15,10 @@ use native.Mathlib.Omega.{arith}
 use lib.ListN.{length, getD}
 use lib.Dec.{eqb, leb}
 use borrow.Author.Tests.{eqb-true, eqb-false, leb-true, le-leb, eq-eqb}
-use Rattle.target.proofs.Both.{both, both3, both4}
+use Rattle.target.proofs.Both.{both, both3, both4, both5}
 use Rattle.target.specs.Pick.{pick}
-use Rattle.target.specs.Place.{ready, works, failed}
+use Rattle.target.specs.Commands.{placeOf}
+use Rattle.target.specs.Luns.{lunReady, works, failed}
 use Rattle.target.specs.declared.Lun.{Lun}
 use Rattle.target.specs.declared.First.{First}
 use Rattle.target.specs.declared.First.the-variants as first
@@ -34,7 +35,7 @@ use Rattle.step.specs.Step.{Buffers, Outcome, steady, stepOf}
 use Rattle.host.specs.declared.numbers.Cycles.{Cycles}
 use Rattle.host.specs.declared.numbers.Place.{Place}
 use Rattle.host.specs.declared.Image.{Image}
-use Rattle.host.specs.Numbers.{markByte, isSet, firstNumber, firstOf, sequenceOf, cyclesOf, outputOf, placeOf, lunsOf, workingOf, failOf, sameCycles, samePlace, fourMarks}
+use Rattle.host.specs.Numbers.{markByte, isSet, firstAt, sequenceOf, cyclesOf, outputOf, outputPlace, lunsOf, workingOf, failOf, sameCycles, samePlace, fourMarks}
 use Rattle.host.specs.Image.{cyclesIn, placeIn, unpacked, imageFrom, packed, marksGood, good, taken, putBack, replyNumber, HostEvent, evented, eventOn}
 
 mark-back : (b : Bool) → isSet (markByte b) ≡ b
@@ -45,30 +46,30 @@ mark-small : (b : Bool) → leb (markByte b) 1 ≡ true
 mark-small true = refl
 mark-small false = refl
 
-first-back : (f : First) → firstOf (firstNumber f) ≡ f
+first-back : (f : First) → firstAt (placeOf f) ≡ f
 first-back first.Read = refl
-first-back first.Jump = refl
-first-back first.Fetch = refl
+first-back first.ChangeColumn = refl
+first-back first.ChangeColumnEnhanced = refl
 first-back first.Erase = refl
 first-back first.Status = refl
-first-back first.Look = refl
+first-back first.StatusEnhanced = refl
 first-back first.Program = refl
-first-back first.Identify = refl
-first-back first.Parameters = refl
-first-back first.GetFeature = refl
-first-back first.SetFeature = refl
+first-back first.ReadId = refl
+first-back first.ParameterPage = refl
+first-back first.GetFeatures = refl
+first-back first.SetFeatures = refl
 
 sequence-back : (s : Sequence) → sequenceOf (cyclesOf s) ≡ s
 sequence-back Idle = refl
-sequence-back (Columns f got low) = ap (λ (x : First). Columns x got low) (first-back f)
-sequence-back (Rows f c got low mid) = ap (λ (x : First). Rows x c got low mid) (first-back f)
+sequence-back (Columns k) = ap (λ (x : First). Columns (record { first = x; got = k .got; low = k .low })) (first-back (k .first))
+sequence-back (Rows k) = ap (λ (x : First). Rows (record { first = x; column = k .column; got = k .got; low = k .low; mid = k .mid })) (first-back (k .first))
 sequence-back (Single f) = ap Single (first-back f)
-sequence-back (Due f c r) = ap (λ (x : First). Due x c r) (first-back f)
-sequence-back (Filling r at) = refl
-sequence-back (Moving r got low) = refl
-sequence-back (Setting got value) = refl
+sequence-back (Due k) = ap (λ (x : First). Due (record { first = x; column = k .column; row = k .row })) (first-back (k .first))
+sequence-back (Filling k) = refl
+sequence-back (Moving k) = refl
+sequence-back (Setting k) = refl
 
-output-back : (x : Output) → outputOf (placeOf x) ≡ x
+output-back : (x : Output) → outputOf (outputPlace x) ≡ x
 output-back output.Nothing = refl
 output-back (output.Register l c) = refl
 output-back (output.Parameters at) = refl
@@ -94,7 +95,7 @@ luns-back ls h =
     ∷ record { working = mark-back (works ls 2) j; fail = mark-back (failed ls 2) j }
     ∷ record { working = mark-back (works ls 3) j; fail = mark-back (failed ls 3) j }
     ∷ [])
-    ∙ four ready ls h
+    ∙ four lunReady ls h
 
 -- what is packed unpacks to itself
 pub packed-back : (t : Target) → length (t .luns) ≡ 4 → unpacked (packed t) ≡ t
@@ -102,12 +103,7 @@ unfolding unpacked packed cyclesIn placeIn
 packed-back t h = λ j. record {
   powered = mark-back (t .powered) j;
   geometry = t .geometry;
-  options = record {
-    look = mark-back (t .options .look) j;
-    fetch = mark-back (t .options .fetch) j;
-    features = mark-back (t .options .features) j;
-    clear = mark-back (t .options .clear) j;
-  };
+  words = t .words;
   ids = t .ids;
   high = mark-back (t .high) j;
   clear = mark-back (t .clear) j;
@@ -144,16 +140,14 @@ fail-small ls = and (and (and (mark-small (failed ls 0)) (mark-small (failed ls 
 marks-small : (t : Target) → marksGood (packed t) ≡ true
 unfolding marksGood packed
 marks-small t =
-    and (and (and (and (and (and (and (and (and
-    (mark-small (t .powered)) (mark-small (t .options .look))) (mark-small (t .options .fetch))) (mark-small (t .options .features)))
-    (mark-small (t .options .clear))) (mark-small (t .high))) (mark-small (t .clear))) (mark-small (t .seen)))
+    and (and (and (and (and (mark-small (t .powered)) (mark-small (t .high))) (mark-small (t .clear))) (mark-small (t .seen)))
     (working-small (t .luns))) (fail-small (t .luns))
 
 packed-cycles : (t : Target) → cyclesIn (packed t) ≡ cyclesOf (t .decoder .sequence)
 unfolding cyclesIn packed
 packed-cycles t = refl
 
-packed-place : (t : Target) → placeIn (packed t) ≡ placeOf (t .decoder .output)
+packed-place : (t : Target) → placeIn (packed t) ≡ outputPlace (t .decoder .output)
 unfolding placeIn packed
 packed-place t = refl
 
@@ -164,8 +158,8 @@ packed-good t =
     and (and (marks-small t)
     (ap (λ (c : Cycles). sameCycles c (cyclesOf (sequenceOf c))) (packed-cycles t)
     ∙ ap (λ (s : Sequence). sameCycles (cyclesOf (t .decoder .sequence)) (cyclesOf s)) (sequence-back (t .decoder .sequence)) ∙ cycles-self (cyclesOf (t .decoder .sequence))))
-    (ap (λ (p : Place). samePlace p (placeOf (outputOf p))) (packed-place t)
-    ∙ ap (λ (x : Output). samePlace (placeOf (t .decoder .output)) (placeOf x)) (output-back (t .decoder .output)) ∙ place-self (placeOf (t .decoder .output)))
+    (ap (λ (p : Place). samePlace p (outputPlace (outputOf p))) (packed-place t)
+    ∙ ap (λ (x : Output). samePlace (outputPlace (t .decoder .output)) (outputPlace x)) (output-back (t .decoder .output)) ∙ place-self (outputPlace (t .decoder .output)))
 
 -- a byte that is a mark
 mark-fits : (n : ℕ) → leb n 1 ≡ true → markByte (isSet n) ≡ n
@@ -217,18 +211,16 @@ fail-back w f l h =
 pub image-back : (i : Image) → length (i .working) ≡ 4 → length (i .fail) ≡ 4 → good i ≡ true → packed (unpacked i) ≡ i
 unfolding good marksGood packed unpacked cyclesIn placeIn
 image-back i lw lf h =
-    let g = both3 (marksGood i) (sameCycles (cyclesIn i) (cyclesOf (sequenceOf (cyclesIn i)))) (samePlace (placeIn i) (placeOf (outputOf (placeIn i)))) h in
+    let g = both3 (marksGood i) (sameCycles (cyclesIn i) (cyclesOf (sequenceOf (cyclesIn i)))) (samePlace (placeIn i) (outputPlace (outputOf (placeIn i)))) h in
     let cycles = sym (same-cycles (cyclesIn i) (cyclesOf (sequenceOf (cyclesIn i))) (g .1)) in
-    let place = sym (same-place (placeIn i) (placeOf (outputOf (placeIn i))) (g .2)) in
-    let m9 = both (leb (i .powered) 1 && leb (i .look) 1 && leb (i .fetch) 1 && leb (i .features) 1 && leb (i .«can_clear») 1 && leb (i .high) 1 && leb (i .clear) 1 && leb (i .seen) 1 && fourMarks (i .working)) (fourMarks (i .fail)) (g .0) in
-    let m8 = both (leb (i .powered) 1 && leb (i .look) 1 && leb (i .fetch) 1 && leb (i .features) 1 && leb (i .«can_clear») 1 && leb (i .high) 1 && leb (i .clear) 1 && leb (i .seen) 1) (fourMarks (i .working)) (m9 .0) in
-    let m7 = both (leb (i .powered) 1 && leb (i .look) 1 && leb (i .fetch) 1 && leb (i .features) 1 && leb (i .«can_clear») 1 && leb (i .high) 1 && leb (i .clear) 1) (leb (i .seen) 1) (m8 .0) in
-    let m6 = both (leb (i .powered) 1 && leb (i .look) 1 && leb (i .fetch) 1 && leb (i .features) 1 && leb (i .«can_clear») 1 && leb (i .high) 1) (leb (i .clear) 1) (m7 .0) in
-    let m5 = both (leb (i .powered) 1 && leb (i .look) 1 && leb (i .fetch) 1 && leb (i .features) 1 && leb (i .«can_clear») 1) (leb (i .high) 1) (m6 .0) in
-    let m4 = both (leb (i .powered) 1 && leb (i .look) 1 && leb (i .fetch) 1 && leb (i .features) 1) (leb (i .«can_clear») 1) (m5 .0) in
-    let m3 = both4 (leb (i .powered) 1) (leb (i .look) 1) (leb (i .fetch) 1) (leb (i .features) 1) (m4 .0) in
+    let place = sym (same-place (placeIn i) (outputPlace (outputOf (placeIn i))) (g .2)) in
+    let m5 = both (leb (i .powered) 1 && leb (i .high) 1 && leb (i .clear) 1 && leb (i .seen) 1 && fourMarks (i .working)) (fourMarks (i .fail)) (g .0) in
+    let m4 = both5 (leb (i .powered) 1) (leb (i .high) 1) (leb (i .clear) 1) (leb (i .seen) 1) (fourMarks (i .working)) (m5 .0) in
     λ j. record {
-      page = i .page;
+      «data_bytes» = i .«data_bytes»;
+      «spare_bytes» = i .«spare_bytes»;
+      features = i .features;
+      «optional_commands» = i .«optional_commands»;
       pages = i .pages;
       blocks = i .blocks;
       luns = i .luns;
@@ -238,16 +230,12 @@ image-back i lw lf h =
       row = cycles j .row;
       «output_lun» = place j .lun;
       «output_at» = place j .at;
-      powered = mark-fits (i .powered) (m3 .0) j;
-      look = mark-fits (i .look) (m3 .1) j;
-      fetch = mark-fits (i .fetch) (m3 .2) j;
-      features = mark-fits (i .features) (m3 .3) j;
-      «can_clear» = mark-fits (i .«can_clear») (m4 .1) j;
-      high = mark-fits (i .high) (m5 .1) j;
-      clear = mark-fits (i .clear) (m6 .1) j;
-      seen = mark-fits (i .seen) (m7 .1) j;
-      working = working-back (i .working) (i .fail) lw (m8 .1) j;
-      fail = fail-back (i .working) (i .fail) lf (m9 .1) j;
+      powered = mark-fits (i .powered) (m4 .0) j;
+      high = mark-fits (i .high) (m4 .1) j;
+      clear = mark-fits (i .clear) (m4 .2) j;
+      seen = mark-fits (i .seen) (m4 .3) j;
+      working = working-back (i .working) (i .fail) lw (m4 .4) j;
+      fail = fail-back (i .working) (i .fail) lf (m5 .1) j;
       maker = i .maker;
       device = i .device;
       sequence = cycles j .kind;

@@ -18,7 +18,7 @@ use Rattle.unread.specs.declared.Unread.{Unread}
 use Rattle.host.specs.declared.numbers.Cycles.{Cycles}
 use Rattle.host.specs.declared.numbers.Place.{Place}
 use Rattle.host.specs.declared.Image.{Image}
-use Rattle.host.specs.Numbers.{markByte, isSet, sequenceOf, cyclesOf, outputOf, placeOf, lunsOf, workingOf, failOf, sameCycles, samePlace, fourMarks}
+use Rattle.host.specs.Numbers.{markByte, isSet, sequenceOf, cyclesOf, outputOf, outputPlace, lunsOf, workingOf, failOf, sameCycles, samePlace, fourMarks}
 
 -- the numbers of the open sequence and of the output
 unfoldable pub cyclesIn : Image → Cycles
@@ -40,8 +40,15 @@ placeIn i = record { kind = i .output; lun = i .«output_lun»; at = i .«output
 unfoldable pub unpacked : Image → Target
 unpacked i = record {
   powered = isSet (i .powered);
-  geometry = record { page = i .page; pages = i .pages; blocks = i .blocks; luns = i .luns; programs = i .programs };
-  options = record { look = isSet (i .look); fetch = isSet (i .fetch); features = isSet (i .features); clear = isSet (i .«can_clear») };
+  geometry = record {
+    bytes = i .«data_bytes»;
+    spare = i .«spare_bytes»;
+    pages = i .pages;
+    blocks = i .blocks;
+    luns = i .luns;
+    programs = i .programs;
+  };
+  words = record { features = i .features; optional = i .«optional_commands» };
   ids = record { maker = i .maker; device = i .device };
   high = isSet (i .high);
   clear = isSet (i .clear);
@@ -53,7 +60,10 @@ unpacked i = record {
 
 abbrev pub imageFrom : Target → Cycles → Place → Image
 imageFrom t c p = record {
-  page = t .geometry .page;
+  «data_bytes» = t .geometry .bytes;
+  «spare_bytes» = t .geometry .spare;
+  features = t .words .features;
+  «optional_commands» = t .words .optional;
   pages = t .geometry .pages;
   blocks = t .geometry .blocks;
   luns = t .geometry .luns;
@@ -64,10 +74,6 @@ imageFrom t c p = record {
   «output_lun» = p .lun;
   «output_at» = p .at;
   powered = markByte (t .powered);
-  look = markByte (t .options .look);
-  fetch = markByte (t .options .fetch);
-  features = markByte (t .options .features);
-  «can_clear» = markByte (t .options .clear);
   high = markByte (t .high);
   clear = markByte (t .clear);
   seen = markByte (t .seen);
@@ -85,16 +91,12 @@ imageFrom t c p = record {
 }
 
 unfoldable pub packed : Target → Image
-packed t = imageFrom t (cyclesOf (t .decoder .sequence)) (placeOf (t .decoder .output))
+packed t = imageFrom t (cyclesOf (t .decoder .sequence)) (outputPlace (t .decoder .output))
 
 -- every mark is 0 or 1
 unfoldable pub marksGood : Image → Bool
 marksGood i =
     leb (i .powered) 1
-    && leb (i .look) 1
-    && leb (i .fetch) 1
-    && leb (i .features) 1
-    && leb (i .«can_clear») 1
     && leb (i .high) 1
     && leb (i .clear) 1
     && leb (i .seen) 1
@@ -107,7 +109,7 @@ unfoldable pub good : Image → Bool
 good i =
     marksGood i
     && sameCycles (cyclesIn i) (cyclesOf (sequenceOf (cyclesIn i)))
-    && samePlace (placeIn i) (placeOf (outputOf (placeIn i)))
+    && samePlace (placeIn i) (outputPlace (outputOf (placeIn i)))
 
 -- numbers that no record packs to stand for a target that is not powered, of which every event is refused 13 ..
 unfoldable pub taken : Image → Target

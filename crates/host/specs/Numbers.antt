@@ -5,7 +5,8 @@ use mathlib.Core.List.{List, [], _∷_}
 use lib.ListN.{getD}
 use lib.Dec.{eqb, leb}
 use Rattle.target.specs.Pick.{pick}
-use Rattle.target.specs.Place.{works, failed}
+use Rattle.target.specs.Commands.{placeOf, firstCommands}
+use Rattle.target.specs.Luns.{works, failed}
 use Rattle.target.specs.declared.Lun.{Lun}
 use Rattle.target.specs.declared.First.{First}
 use Rattle.target.specs.declared.First.the-variants as first
@@ -24,64 +25,46 @@ markByte false = 0
 abbrev pub isSet : ℕ → Bool
 isSet n = eqb n 1
 
--- the first commands, in the order of their codes: 00h 05h 06h 60h 70h 78h 80h 90h ECh EEh EFh
-abbrev pub firstNumber : First → ℕ
-firstNumber first.Read = 0
-firstNumber first.Jump = 1
-firstNumber first.Fetch = 2
-firstNumber first.Erase = 3
-firstNumber first.Status = 4
-firstNumber first.Look = 5
-firstNumber first.Program = 6
-firstNumber first.Identify = 7
-firstNumber first.Parameters = 8
-firstNumber first.GetFeature = 9
-firstNumber first.SetFeature = 10
+-- the first command at a place of the command list; a number past its end is read as the first, and then the numbers are not
+-- what it packs to
+abbrev pub firstAt : ℕ → First
+firstAt n = getD firstCommands n first.Read
 
-abbrev pub firstOf : ℕ → First
-firstOf n =
-    pick (eqb n 1) first.Jump
-    (pick (eqb n 2) first.Fetch
-    (pick (eqb n 3) first.Erase
-    (pick (eqb n 4) first.Status
-    (pick (eqb n 5) first.Look
-    (pick (eqb n 6) first.Program
-    (pick (eqb n 7) first.Identify
-    (pick (eqb n 8) first.Parameters
-    (pick (eqb n 9) first.GetFeature
-    (pick (eqb n 10) first.SetFeature first.Read)))))))))
-
--- the open sequence; what a sequence has not is 0
+-- the open sequence, its first command by its place in the list; what a sequence has not is 0
 abbrev pub cyclesOf : Sequence → Cycles
 cyclesOf Idle = record { kind = 0; first = 0; got = 0; low = 0; mid = 0; value = 0; column = 0; row = 0 }
-cyclesOf (Columns f got low) = record { kind = 1; first = firstNumber f; got = got; low = low; mid = 0; value = 0; column = 0; row = 0 }
-cyclesOf (Rows f c got low mid) = record { kind = 2; first = firstNumber f; got = got; low = low; mid = mid; value = 0; column = c .0; row = 0 }
-cyclesOf (Single f) = record { kind = 3; first = firstNumber f; got = 0; low = 0; mid = 0; value = 0; column = 0; row = 0 }
-cyclesOf (Due f c r) = record { kind = 4; first = firstNumber f; got = 0; low = 0; mid = 0; value = 0; column = c .0; row = r .0 }
-cyclesOf (Filling r at) = record { kind = 5; first = 0; got = 0; low = 0; mid = 0; value = 0; column = at .0; row = r .0 }
-cyclesOf (Moving r got low) = record { kind = 6; first = 0; got = got; low = low; mid = 0; value = 0; column = 0; row = r .0 }
-cyclesOf (Setting got value) = record { kind = 7; first = 0; got = got; low = 0; mid = 0; value = value; column = 0; row = 0 }
+cyclesOf (Columns k) =
+    record { kind = 1; first = placeOf (k .first); got = k .got; low = k .low; mid = 0; value = 0; column = 0; row = 0 }
+cyclesOf (Rows k) =
+    record { kind = 2; first = placeOf (k .first); got = k .got; low = k .low; mid = k .mid; value = 0; column = k .column .0; row = 0 }
+cyclesOf (Single f) = record { kind = 3; first = placeOf f; got = 0; low = 0; mid = 0; value = 0; column = 0; row = 0 }
+cyclesOf (Due k) =
+    record { kind = 4; first = placeOf (k .first); got = 0; low = 0; mid = 0; value = 0; column = k .column .0; row = k .row .0 }
+cyclesOf (Filling k) = record { kind = 5; first = 0; got = 0; low = 0; mid = 0; value = 0; column = k .at .0; row = k .row .0 }
+cyclesOf (Moving k) = record { kind = 6; first = 0; got = k .got; low = k .low; mid = 0; value = 0; column = 0; row = k .row .0 }
+cyclesOf (Setting k) = record { kind = 7; first = 0; got = k .got; low = 0; mid = 0; value = k .value; column = 0; row = 0 }
 
 -- back; a kind above 7 is read as no sequence, and then the numbers are not what it packs to
 abbrev pub sequenceOf : Cycles → Sequence
 sequenceOf c =
-    pick (eqb (c .kind) 1) (Columns (firstOf (c .first)) (c .got) (c .low))
-    (pick (eqb (c .kind) 2) (Rows (firstOf (c .first)) (record { 0 = c .column }) (c .got) (c .low) (c .mid))
-    (pick (eqb (c .kind) 3) (Single (firstOf (c .first)))
-    (pick (eqb (c .kind) 4) (Due (firstOf (c .first)) (record { 0 = c .column }) (record { 0 = c .row }))
-    (pick (eqb (c .kind) 5) (Filling (record { 0 = c .row }) (record { 0 = c .column }))
-    (pick (eqb (c .kind) 6) (Moving (record { 0 = c .row }) (c .got) (c .low))
-    (pick (eqb (c .kind) 7) (Setting (c .got) (c .value)) Idle))))))
+    pick (eqb (c .kind) 1) (Columns (record { first = firstAt (c .first); got = c .got; low = c .low }))
+    (pick (eqb (c .kind) 2)
+    (Rows (record { first = firstAt (c .first); column = record { 0 = c .column }; got = c .got; low = c .low; mid = c .mid }))
+    (pick (eqb (c .kind) 3) (Single (firstAt (c .first)))
+    (pick (eqb (c .kind) 4) (Due (record { first = firstAt (c .first); column = record { 0 = c .column }; row = record { 0 = c .row } }))
+    (pick (eqb (c .kind) 5) (Filling (record { row = record { 0 = c .row }; at = record { 0 = c .column } }))
+    (pick (eqb (c .kind) 6) (Moving (record { row = record { 0 = c .row }; got = c .got; low = c .low }))
+    (pick (eqb (c .kind) 7) (Setting (record { got = c .got; value = c .value })) Idle))))))
 
 -- the output; what it has not is 0
-abbrev pub placeOf : Output → Place
-placeOf output.Nothing = record { kind = 0; lun = 0; at = 0 }
-placeOf (output.Register l c) = record { kind = 1; lun = l; at = c .0 }
-placeOf (output.Parameters at) = record { kind = 2; lun = 0; at = at }
-placeOf (output.Status l) = record { kind = 3; lun = l; at = 0 }
-placeOf (output.Ids at) = record { kind = 4; lun = 0; at = at }
-placeOf (output.Signature at) = record { kind = 5; lun = 0; at = at }
-placeOf (output.Feature at) = record { kind = 6; lun = 0; at = at }
+abbrev pub outputPlace : Output → Place
+outputPlace output.Nothing = record { kind = 0; lun = 0; at = 0 }
+outputPlace (output.Register l c) = record { kind = 1; lun = l; at = c .0 }
+outputPlace (output.Parameters at) = record { kind = 2; lun = 0; at = at }
+outputPlace (output.Status l) = record { kind = 3; lun = l; at = 0 }
+outputPlace (output.Ids at) = record { kind = 4; lun = 0; at = at }
+outputPlace (output.Signature at) = record { kind = 5; lun = 0; at = at }
+outputPlace (output.Feature at) = record { kind = 6; lun = 0; at = at }
 
 abbrev pub outputOf : Place → Output
 outputOf p =

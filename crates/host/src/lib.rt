@@ -27,9 +27,9 @@ use target::Decoder;
 use target::Event;
 use target::Geometry;
 use target::Ids;
-use target::Options;
 use target::Reply;
 use target::Target;
+use target::Words;
 use target::reply_first;
 use target::reply_second;
 use trace::run_number;
@@ -41,7 +41,10 @@ ghost use Rattle.host.specs.Image.{cyclesIn, placeIn, unpacked, imageFro
 // The record as a host holds it: `nib_target` of include/nibtoggle.h.
 #[repr(C)]
 pub struct Image {
-    pub page: usize,
+    pub data_bytes: u16,
+    pub spare_bytes: u16,
+    pub features: u16,
+    pub optional_commands: u16,
     pub pages: usize,
     pub blocks: usize,
     pub luns: usize,
@@ -52,10 +55,6 @@ pub struct Image {
     pub output_lun: usize,
     pub output_at: usize,
     pub powered: u8,
-    pub look: u8,
-    pub fetch: u8,
-    pub features: u8,
-    pub can_clear: u8,
     pub high: u8,
     pub clear: u8,
     pub seen: u8,
@@ -102,17 +101,16 @@ pub fn unpack(i: Image) -> Target
     ensures { λ r. ⌜ r ≡ unpacked i ⌝ }
 {
     let geometry = Geometry {
-        page: i.page,
+        bytes: i.data_bytes,
+        spare: i.spare_bytes,
         pages: i.pages,
         blocks: i.blocks,
         luns: i.luns,
         programs: i.programs,
     };
-    let options = Options {
-        look: is_set(i.look),
-        fetch: is_set(i.fetch),
-        features: is_set(i.features),
-        clear: is_set(i.can_clear),
+    let words = Words {
+        features: i.features,
+        optional: i.optional_commands,
     };
     let ids = Ids {
         maker: i.maker,
@@ -127,7 +125,7 @@ pub fn unpack(i: Image) -> Target
     Target {
         powered: is_set(i.powered),
         geometry,
-        options,
+        words,
         ids,
         high: is_set(i.high),
         clear: is_set(i.clear),
@@ -142,13 +140,16 @@ fn image_from(t: Target, c: Cycles, p: Place) -> Image
     ensures { λ r. ⌜ r ≡ imageFrom t c p ⌝ }
 {
     let g = t.geometry;
-    let o = t.options;
+    let words = t.words;
     let ids = t.ids;
     let luns = t.luns;
     let working = of_working(luns);
     let fail = of_fail(luns);
     Image {
-        page: g.page,
+        data_bytes: g.bytes,
+        spare_bytes: g.spare,
+        features: words.features,
+        optional_commands: words.optional,
         pages: g.pages,
         blocks: g.blocks,
         luns: g.luns,
@@ -159,10 +160,6 @@ fn image_from(t: Target, c: Cycles, p: Place) -> Image
         output_lun: p.lun,
         output_at: p.at,
         powered: mark_byte(t.powered),
-        look: mark_byte(o.look),
-        fetch: mark_byte(o.fetch),
-        features: mark_byte(o.features),
-        can_clear: mark_byte(o.clear),
         high: mark_byte(t.high),
         clear: mark_byte(t.clear),
         seen: mark_byte(t.seen),
@@ -197,10 +194,6 @@ fn marks_good(i: Image) -> bool
     let working = i.working;
     let fail = i.fail;
     (i.powered <= 1)
-        & (i.look <= 1)
-        & (i.fetch <= 1)
-        & (i.features <= 1)
-        & (i.can_clear <= 1)
         & (i.high <= 1)
         & (i.clear <= 1)
         & (i.seen <= 1)

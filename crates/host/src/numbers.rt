@@ -1,18 +1,25 @@
 // The record's parts as plain numbers, and back: marks, first commands, the open sequence, the output. All by value.
 use target::Column;
+use target::ColumnCycles;
+use target::FeatureBytes;
+use target::Fill;
 use target::First;
 use target::Lun;
 use target::Luns;
+use target::Moved;
 use target::Output;
 use target::Row;
+use target::RowCycles;
 use target::Sequence;
+use target::Wait;
+use target::commands::place_of;
 use target::picks::pick_output;
 use target::picks::pick_sequence;
-use target::place::failed;
-use target::place::works;
+use target::records::failed;
+use target::records::works;
 ghost use mathlib.Core.Path.{_≡_};
-ghost use Rattle.target.specs.Pick.{pick};
-ghost use Rattle.host.specs.Numbers.{markByte, isSet, firstNumber, firstOf, sequenceOf, cyclesOf, outputOf, placeOf, lunOf, lunsOf, workingOf, failOf, sameCycles, samePlace, fourMarks};
+ghost use Rattle.target.specs.Commands.{placeOf};
+ghost use Rattle.host.specs.Numbers.{markByte, isSet, firstAt, sequenceOf, cyclesOf, outputOf, outputPlace, lunOf, lunsOf, workingOf, failOf, sameCycles, samePlace, fourMarks};
 
 // The open sequence as numbers; what it has not is 0.
 pub struct Cycles {
@@ -50,84 +57,78 @@ pub fn is_set(n: u8) -> bool
     n == 1
 }
 
+// The first command's place in the command list.
 pub fn first_number(f: First) -> u8
-    ensures { λ r. ⌜ r ≡ firstNumber f ⌝ }
+    ensures { λ r. ⌜ r ≡ placeOf f ⌝ }
 {
-    match f {
-        First::Read => 0,
-        First::Jump => 1,
-        First::Fetch => 2,
-        First::Erase => 3,
-        First::Status => 4,
-        First::Look => 5,
-        First::Program => 6,
-        First::Identify => 7,
-        First::Parameters => 8,
-        First::GetFeature => 9,
-        First::SetFeature => 10,
+    place_of(f) as u8
+}
+
+// The first commands in the list's order.
+const FIRST_COMMANDS: [First; 11] = [
+    First::Read,
+    First::ChangeColumn,
+    First::ChangeColumnEnhanced,
+    First::Erase,
+    First::Status,
+    First::StatusEnhanced,
+    First::Program,
+    First::ReadId,
+    First::ParameterPage,
+    First::GetFeatures,
+    First::SetFeatures,
+];
+
+// The first command at a place of the list; one that is not there is read as the first, and then the numbers are not what it
+// packs to.
+pub fn first_at(n: u8) -> First
+    ensures { λ r. ⌜ r ≡ firstAt n ⌝ }
+{
+    let i = n as usize;
+    if i < 11 {
+        FIRST_COMMANDS[i]
+    } else {
+        First::Read
     }
-}
-
-fn pick_first(b: bool, x: First, y: First) -> First
-    ensures { λ r. ⌜ r ≡ pick b x y ⌝ }
-{
-    if b { x } else { y }
-}
-
-pub fn first_of(n: u8) -> First
-    ensures { λ r. ⌜ r ≡ firstOf n ⌝ }
-{
-    let f = pick_first(n == 10, First::SetFeature, First::Read);
-    let f = pick_first(n == 9, First::GetFeature, f);
-    let f = pick_first(n == 8, First::Parameters, f);
-    let f = pick_first(n == 7, First::Identify, f);
-    let f = pick_first(n == 6, First::Program, f);
-    let f = pick_first(n == 5, First::Look, f);
-    let f = pick_first(n == 4, First::Status, f);
-    let f = pick_first(n == 3, First::Erase, f);
-    let f = pick_first(n == 2, First::Fetch, f);
-    let f = pick_first(n == 1, First::Jump, f);
-    f
 }
 
 pub fn to_sequence(c: Cycles) -> Sequence
     ensures { λ r. ⌜ r ≡ sequenceOf c ⌝ }
 {
     let kind = c.kind;
-    let first = first_of(c.first);
+    let first = first_at(c.first);
     let column = Column(c.column);
     let row = Row(c.row);
-    let columns = Sequence::Columns {
+    let columns = ColumnCycles {
         first,
         got: c.got,
         low: c.low,
     };
-    let rows = Sequence::Rows {
+    let rows = RowCycles {
         first,
         column,
         got: c.got,
         low: c.low,
         mid: c.mid,
     };
-    let single = Sequence::Single { first };
-    let due = Sequence::Due { first, column, row };
-    let filling = Sequence::Filling { row, at: column };
-    let moving = Sequence::Moving {
+    let due = Wait { first, column, row };
+    let filling = Fill { row, at: column };
+    let moving = Moved {
         row,
         got: c.got,
         low: c.low,
     };
-    let setting = Sequence::Setting {
+    let setting = FeatureBytes {
         got: c.got,
         value: c.value,
     };
-    let s = pick_sequence(kind == 7, setting, Sequence::Idle);
-    let s = pick_sequence(kind == 6, moving, s);
-    let s = pick_sequence(kind == 5, filling, s);
-    let s = pick_sequence(kind == 4, due, s);
-    let s = pick_sequence(kind == 3, single, s);
-    let s = pick_sequence(kind == 2, rows, s);
-    pick_sequence(kind == 1, columns, s)
+    let s = pick_sequence(kind == 7, Sequence::Setting(setting), Sequence::Idle);
+    let s = pick_sequence(kind == 6, Sequence::Moving(moving), s);
+    let s = pick_sequence(kind == 5, Sequence::Filling(filling), s);
+    let s = pick_sequence(kind == 4, Sequence::Due(due), s);
+    let s = pick_sequence(kind == 3, Sequence::Single(first), s);
+    let s = pick_sequence(kind == 2, Sequence::Rows(rows), s);
+    pick_sequence(kind == 1, Sequence::Columns(columns), s)
 }
 
 pub fn of_sequence(s: Sequence) -> Cycles
@@ -144,33 +145,34 @@ pub fn of_sequence(s: Sequence) -> Cycles
             column: 0,
             row: 0,
         },
-        Sequence::Columns { first, got, low } => Cycles {
-            kind: 1,
-            first: first_number(first),
-            got,
-            low,
-            mid: 0,
-            value: 0,
-            column: 0,
-            row: 0,
-        },
-        Sequence::Rows {
-            first,
-            column,
-            got,
-            low,
-            mid,
-        } => Cycles {
-            kind: 2,
-            first: first_number(first),
-            got,
-            low,
-            mid,
-            value: 0,
-            column: column.0,
-            row: 0,
-        },
-        Sequence::Single { first } => Cycles {
+        Sequence::Columns(k) => {
+            let first = k.first;
+            Cycles {
+                kind: 1,
+                first: first_number(first),
+                got: k.got,
+                low: k.low,
+                mid: 0,
+                value: 0,
+                column: 0,
+                row: 0,
+            }
+        }
+        Sequence::Rows(k) => {
+            let first = k.first;
+            let column = k.column;
+            Cycles {
+                kind: 2,
+                first: first_number(first),
+                got: k.got,
+                low: k.low,
+                mid: k.mid,
+                value: 0,
+                column: column.0,
+                row: 0,
+            }
+        }
+        Sequence::Single(first) => Cycles {
             kind: 3,
             first: first_number(first),
             got: 0,
@@ -180,43 +182,55 @@ pub fn of_sequence(s: Sequence) -> Cycles
             column: 0,
             row: 0,
         },
-        Sequence::Due { first, column, row } => Cycles {
-            kind: 4,
-            first: first_number(first),
-            got: 0,
-            low: 0,
-            mid: 0,
-            value: 0,
-            column: column.0,
-            row: row.0,
-        },
-        Sequence::Filling { row, at } => Cycles {
-            kind: 5,
-            first: 0,
-            got: 0,
-            low: 0,
-            mid: 0,
-            value: 0,
-            column: at.0,
-            row: row.0,
-        },
-        Sequence::Moving { row, got, low } => Cycles {
-            kind: 6,
-            first: 0,
-            got,
-            low,
-            mid: 0,
-            value: 0,
-            column: 0,
-            row: row.0,
-        },
-        Sequence::Setting { got, value } => Cycles {
+        Sequence::Due(k) => {
+            let first = k.first;
+            let column = k.column;
+            let row = k.row;
+            Cycles {
+                kind: 4,
+                first: first_number(first),
+                got: 0,
+                low: 0,
+                mid: 0,
+                value: 0,
+                column: column.0,
+                row: row.0,
+            }
+        }
+        Sequence::Filling(k) => {
+            let column = k.at;
+            let row = k.row;
+            Cycles {
+                kind: 5,
+                first: 0,
+                got: 0,
+                low: 0,
+                mid: 0,
+                value: 0,
+                column: column.0,
+                row: row.0,
+            }
+        }
+        Sequence::Moving(k) => {
+            let row = k.row;
+            Cycles {
+                kind: 6,
+                first: 0,
+                got: k.got,
+                low: k.low,
+                mid: 0,
+                value: 0,
+                column: 0,
+                row: row.0,
+            }
+        }
+        Sequence::Setting(k) => Cycles {
             kind: 7,
             first: 0,
-            got,
+            got: k.got,
             low: 0,
             mid: 0,
-            value,
+            value: k.value,
             column: 0,
             row: 0,
         },
@@ -243,7 +257,7 @@ pub fn to_output(p: Place) -> Output
 }
 
 pub fn of_output(o: Output) -> Place
-    ensures { λ r. ⌜ r ≡ placeOf o ⌝ }
+    ensures { λ r. ⌜ r ≡ outputPlace o ⌝ }
 {
     match o {
         Output::Nothing => Place {

@@ -11,7 +11,7 @@ use borrow.Author.Tests.{eq-eqb, le-leb}
 use Rattle.slices.specs.Cells.{allAtMost}
 use Rattle.page.specs.Page.{programsAPage}
 use Rattle.target.specs.Pick.{pick}
-use Rattle.target.specs.Sizes.{sized}
+use Rattle.target.specs.Sizes.{pageSize, sized}
 use Rattle.target.specs.declared.Geometry.{Geometry}
 use Rattle.power.specs.declared.PowerRefusal.{PowerRefusal}
 use Rattle.power.specs.declared.PowerAnswer.the-variants as answer
@@ -45,8 +45,8 @@ unfolding sized zeros
 fit g =
     let blocks = g .luns * g .blocks in
     let pages = blocks * g .pages in
-    let bytes = pages * g .page in
-    let registers = g .luns * g .page in
+    let bytes = pages * pageSize g in
+    let registers = g .luns * pageSize g in
     four (eqb bytes bytes) (eqb registers registers) (eqb (length (zeros pages)) pages) (eqb (length (zeros blocks)) blocks)
     (eq-eqb bytes bytes refl)
     (eq-eqb registers registers refl)

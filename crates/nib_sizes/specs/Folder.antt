@@ -5,6 +5,7 @@ use mathlib.Core.List.{List}
 use lib.ListN.{replicate}
 use lib.Dec.{ltb}
 use Rattle.target.specs.Pick.{pick}
+use Rattle.target.specs.Sizes.{pageSize}
 use Rattle.target.specs.declared.Geometry.{Geometry}
 use Rattle.power.specs.declared.PowerRefusal.the-variants.{PageLength, Signature, Crc, Field}
 use Rattle.power.specs.Power.{geometryOf, wrongLength, unsigned, crcBad, fieldBad, powerAnswer}
@@ -17,8 +18,8 @@ use Rattle.nib_sizes.specs.declared.Plan.the-variants.{Sizes, Refused, T
 -- array LUNs × blocks × pages × P; registers LUNs × P; counts LUNs × blocks × pages; flags LUNs × blocks
 abbrev pub lengthsOf : Geometry → Lengths
 lengthsOf g = record {
-  array = g .luns * g .blocks * g .pages * g .page;
-  registers = g .luns * g .page;
+  array = g .luns * g .blocks * g .pages * pageSize g;
+  registers = g .luns * pageSize g;
   counts = g .luns * g .blocks * g .pages;
   flags = g .luns * g .blocks;
 }

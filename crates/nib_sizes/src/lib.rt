@@ -5,6 +5,7 @@ use page::limits::is_signed;
 use power::PowerRefusal;
 use power::geometry_of;
 use target::Geometry;
+use target::sizes::page_size;
 ghost use mathlib.Core.Path.{_≡_};
 ghost use mathlib.Core.Bool.{true};
 ghost use Rattle.target.specs.Sizes.{inLimits};
@@ -33,9 +34,10 @@ pub fn lengths_of(g: Geometry) -> Lengths
 {
     let flags = g.luns * g.blocks;
     let counts = flags * g.pages;
+    let p = page_size(g);
     Lengths {
-        array: counts * g.page,
-        registers: g.luns * g.page,
+        array: counts * p,
+        registers: g.luns * p,
         counts,
         flags,
     }

@@ -1,16 +1,16 @@
 -- Power-on (document 01, "Power-on and the parameter page").
 use mathlib.Core.Bool.{Bool, true, false, _&&_, not}
-use mathlib.Core.List.{List, [], _∷_}
-use Prim.Native.Nat.{ℕ, _+_}
+use mathlib.Core.List.{List}
+use Prim.Native.Nat.{ℕ}
 use lib.ListN.{length, replicate}
 use lib.Dec.{eqb}
 use Rattle.slices.specs.Cells.{allAtMost}
-use Rattle.page.specs.Page.{bitOf, signed, crcGood, fieldsInLimits, features, optionalCommands, makerId, dataBytes, spareBytes, pagesABlock, blocksALun, lunCount, programsAPage}
+use Rattle.page.specs.Page.{signed, crcGood, fieldsInLimits, features, optionalCommands, makerId, dataBytes, spareBytes, pagesABlock, blocksALun, lunCount, programsAPage}
 use Rattle.target.specs.Pick.{pick}
-use Rattle.target.specs.Place.{ready}
+use Rattle.target.specs.Luns.{allReady}
 use Rattle.target.specs.Sizes.{sized}
 use Rattle.target.specs.declared.Geometry.{Geometry}
-use Rattle.target.specs.declared.Options.{Options}
+use Rattle.target.specs.declared.Words.{Words}
 use Rattle.target.specs.declared.Ids.{Ids}
 use Rattle.target.specs.declared.Target.{Target}
 use Rattle.target.specs.declared.Sequence.the-variants as sequence
@@ -30,36 +30,32 @@ powerNumber (Refused Field) = 23
 powerNumber (Refused BufferLength) = 24
 powerNumber (Refused Content) = 25
 
--- the fields and bits that the record keeps, IDs too; a page is data and spare bytes
+-- the fields that the record keeps: sizes, words and IDs
 unfoldable pub geometryOf : List ℕ → Geometry
 geometryOf page = record {
-  page = dataBytes page + spareBytes page;
+  bytes = dataBytes page;
+  spare = spareBytes page;
   pages = pagesABlock page;
   blocks = blocksALun page;
   luns = lunCount page;
   programs = programsAPage page;
 }
 
-unfoldable pub optionsOf : List ℕ → Options
-optionsOf page = record {
-  look = bitOf (optionalCommands page) 3;
-  fetch = bitOf (optionalCommands page) 6;
-  features = bitOf (optionalCommands page) 2;
-  clear = bitOf (features page) 8;
-}
+unfoldable pub wordsOf : List ℕ → Words
+wordsOf page = record { features = features page; optional = optionalCommands page }
 
 -- protect line high, program-clear off, every LUN ready, FAIL 0, no FFh seen
 unfoldable pub poweredOf : List ℕ → ℕ → Target
 poweredOf page device = record {
   powered = true;
   geometry = geometryOf page;
-  options = optionsOf page;
+  words = wordsOf page;
   ids = record { maker = makerId page; device = device };
   high = true;
   clear = false;
   seen = false;
   selected = 0;
-  luns = ready ∷ ready ∷ ready ∷ ready ∷ [];
+  luns = allReady;
   decoder = record { sequence = sequence.Idle; output = output.Nothing };
 }
 
@@ -67,14 +63,14 @@ poweredOf page device = record {
 unfoldable pub unpowered : Target
 unpowered = record {
   powered = false;
-  geometry = record { page = 0; pages = 0; blocks = 0; luns = 0; programs = 0 };
-  options = record { look = false; fetch = false; features = false; clear = false };
+  geometry = record { bytes = 0; spare = 0; pages = 0; blocks = 0; luns = 0; programs = 0 };
+  words = record { features = 0; optional = 0 };
   ids = record { maker = 0; device = 0 };
   high = false;
   clear = false;
   seen = false;
   selected = 0;
-  luns = ready ∷ ready ∷ ready ∷ ready ∷ [];
+  luns = allReady;
   decoder = record { sequence = sequence.Idle; output = output.Nothing };
 }
 

@@ -1,7 +1,6 @@
 // Power-on: from a parameter page and the lent buffers to a powered target, or to the right refusal.
 use slices::at_most;
 use slices::fill;
-use page::fields::bit_of;
 use page::fields::blocks_a_lun;
 use page::fields::data_bytes;
 use page::fields::features;
@@ -17,11 +16,11 @@ use page::limits::is_signed;
 use target::Decoder;
 use target::Geometry;
 use target::Ids;
-use target::Lun;
-use target::Options;
 use target::Output;
 use target::Sequence;
 use target::Target;
+use target::Words;
+use target::records::lun_ready;
 use target::sizes::sized;
 ghost use mathlib.Core.Path.{_≡_};
 ghost use mathlib.Core.Bool.{true};
@@ -29,7 +28,7 @@ ghost use Prim.Native.Nat.{_≤_};
 ghost use lib.ListN.{length};
 ghost use Rattle.slices.specs.Cells.{allAtMost};
 ghost use Rattle.page.specs.Page.{fieldsInLimits, programsAPage};
-ghost use Rattle.power.specs.Power.{powerNumber, geometryOf, optionsOf, poweredOf, unpowered, contentBad, powerAnswer, Powering, powerOf};
+ghost use Rattle.power.specs.Power.{powerNumber, geometryOf, wordsOf, poweredOf, unpowered, contentBad, powerAnswer, Powering, powerOf};
 
 pub enum PowerRefusal {
     // 20
@@ -79,7 +78,8 @@ pub fn geometry_of(page: &[u8]) -> Geometry
     ensures { λ g. ⌜ g ≡ geometryOf (now (page .entry)) ⌝ }
 {
     Geometry {
-        page: data_bytes(page) + spare_bytes(page),
+        bytes: data_bytes(page) as u16,
+        spare: spare_bytes(page) as u16,
         pages: pages_a_block(page),
         blocks: blocks_a_lun(page),
         luns: lun_count(page),
@@ -87,15 +87,12 @@ pub fn geometry_of(page: &[u8]) -> Geometry
     }
 }
 
-pub fn options_of(page: &[u8]) -> Options
-    ensures { λ o. ⌜ o ≡ optionsOf (now (page .entry)) ⌝ }
+pub fn words_of(page: &[u8]) -> Words
+    ensures { λ w. ⌜ w ≡ wordsOf (now (page .entry)) ⌝ }
 {
-    let optional = optional_commands(page);
-    Options {
-        look: bit_of(optional, 3),
-        fetch: bit_of(optional, 6),
-        features: bit_of(optional, 2),
-        clear: bit_of(features(page), 8),
+    Words {
+        features: features(page),
+        optional: optional_commands(page),
     }
 }
 
@@ -104,15 +101,12 @@ pub fn powered_of(page: &[u8], device: u8) -> Target
     ensures { λ t. ⌜ t ≡ poweredOf (now (page .entry)) device ⌝ }
 {
     let geometry = geometry_of(page);
-    let options = options_of(page);
+    let words = words_of(page);
     let ids = Ids {
         maker: maker_id(page),
         device,
     };
-    let ready = Lun {
-        working: false,
-        fail: false,
-    };
+    let ready = lun_ready();
     let decoder = Decoder {
         sequence: Sequence::Idle,
         output: Output::Nothing,
@@ -120,7 +114,7 @@ pub fn powered_of(page: &[u8], device: u8) -> Target
     Target {
         powered: true,
         geometry,
-        options,
+        words,
         ids,
         high: true,
         clear: false,
@@ -136,26 +130,22 @@ pub fn unpowered() -> Target
     ensures { λ t. ⌜ t ≡ unpowered ⌝ }
 {
     let geometry = Geometry {
-        page: 0,
+        bytes: 0,
+        spare: 0,
         pages: 0,
         blocks: 0,
         luns: 0,
         programs: 0,
     };
-    let options = Options {
-        look: false,
-        fetch: false,
-        features: false,
-        clear: false,
+    let words = Words {
+        features: 0,
+        optional: 0,
     };
     let ids = Ids {
         maker: 0,
         device: 0,
     };
-    let ready = Lun {
-        working: false,
-        fail: false,
-    };
+    let ready = lun_ready();
     let decoder = Decoder {
         sequence: Sequence::Idle,
         output: Output::Nothing,
@@ -163,7 +153,7 @@ pub fn unpowered() -> Target
     Target {
         powered: false,
         geometry,
-        options,
+        words,
         ids,
         high: false,
         clear: false,

@@ -11,6 +11,7 @@ use borrow.Author.Tests.{ltb-true}
 use Rattle.slices.proofs.Splice.{piece}
 use Rattle.target.specs.declared.Geometry.{Geometry}
 use Rattle.target.specs.declared.Row.{Row}
+use Rattle.target.specs.Sizes.{pageSize}
 use Rattle.target.specs.Address.{pageOf, blockOf, lunOf, lunExists, blockExists, rowExists}
 use Rattle.target.proofs.Both.{both}
 use Rattle.step.specs.Buffers.{blockIndex, pageIndex}
@@ -49,19 +50,19 @@ module _ (g : Geometry) (r : Row) (there : blockExists g r ≡ true) where
   pub block-pages-end : blockIndex g r * g .pages + g .pages ≤ g .luns * g .blocks * g .pages
   block-pages-end = piece (g .pages) block-below
 
-  pub block-bytes-end : blockIndex g r * g .pages * g .page + g .pages * g .page ≤ g .luns * g .blocks * g .pages * g .page
-  block-bytes-end = rw (← add-mul (blockIndex g r * g .pages) (g .pages) (g .page)) (mul-le-mul-right (g .page) block-pages-end)
+  pub block-bytes-end : blockIndex g r * g .pages * pageSize g + g .pages * pageSize g ≤ g .luns * g .blocks * g .pages * pageSize g
+  block-bytes-end = rw (← add-mul (blockIndex g r * g .pages) (g .pages) (pageSize g)) (mul-le-mul-right (pageSize g) block-pages-end)
 
 module _ (g : Geometry) (r : Row) (there : rowExists g r ≡ true) where
   pub page-below : pageIndex g r < g .luns * g .blocks * g .pages
   unfolding pageIndex
   page-below = digits-lt (block-below g r (row-block g r there)) (row-page g r there)
 
-  pub page-bytes-end : pageIndex g r * g .page + g .page ≤ g .luns * g .blocks * g .pages * g .page
-  page-bytes-end = piece (g .page) page-below
+  pub page-bytes-end : pageIndex g r * pageSize g + pageSize g ≤ g .luns * g .blocks * g .pages * pageSize g
+  page-bytes-end = piece (pageSize g) page-below
 
-  pub register-end : lunOf g r * g .page + g .page ≤ g .luns * g .page
-  register-end = piece (g .page) (row-lun g r there)
+  pub register-end : lunOf g r * pageSize g + pageSize g ≤ g .luns * pageSize g
+  register-end = piece (pageSize g) (row-lun g r there)
 
 -- an index is the sum of its parts
 pub block-parts : (g : Geometry) (r : Row) → blockIndex g r ≡ lunOf g r * g .blocks + blockOf g r

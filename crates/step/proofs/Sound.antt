@@ -8,27 +8,28 @@ use native.Mathlib.Omega.{arith}
 use lib.ListN.{length}
 use lib.Dec.{eqb, ltb, leb}
 use borrow.Author.Tests.{eqb-true, ltb-true, leb-true}
-use Rattle.target.specs.Address.{blockExists, rowExists}
-use Rattle.target.specs.Sizes.{inLimits, sized}
+use Rattle.target.specs.Address.{rowExists}
+use Rattle.target.specs.Views.{taking}
+use Rattle.target.specs.Sizes.{pageSize, inLimits, sized}
 use Rattle.target.specs.declared.Column.{Column}
 use Rattle.target.specs.declared.Row.{Row}
+use Rattle.target.specs.declared.Fill.{Fill}
 use Rattle.target.specs.declared.Geometry.{Geometry}
 use Rattle.target.specs.declared.Target.{Target}
-use Rattle.target.specs.declared.First.{First}
-use Rattle.target.specs.declared.First.the-variants.{Erase}
 use Rattle.target.specs.declared.Sequence.{Sequence}
 use Rattle.target.specs.declared.Sequence.the-variants.{Idle, Columns, Rows, Single, Due, Filling, Moving, Setting}
 use Rattle.target.specs.declared.Output.{Output}
 use Rattle.target.specs.declared.Output.the-variants as output
-use Rattle.target.proofs.Both.{both, both4}
+use Rattle.target.proofs.Both.{both, both4, both5}
 use Rattle.target.proofs.Limits.{Limits, limits}
-use Rattle.effects.specs.After.{placeIn, placeOut}
-use Rattle.step.specs.Usable.{dueSound, sequenceSound, outputSound, marksSound, recordSound, usable}
+use Rattle.effects.specs.Effects.{placeIn, placeOut}
+use Rattle.step.specs.Usable.{sequenceSound, outputSound, marksSound, wordsSound, recordSound, usable}
 use Rattle.step.specs.Step.{Sizes}
 
 pub record Sound (t : Target) : Type 0 where
   pub powered : t .powered ≡ true
   pub limited : inLimits (t .geometry) ≡ true
+  pub words : wordsSound (t .geometry) (t .words) ≡ true
   pub selected : t .selected < t .geometry .luns
   pub marks : marksSound (t .geometry) (t .luns) ≡ true
   pub sequence : sequenceSound (t .geometry) (t .decoder .sequence) ≡ true
@@ -41,38 +42,44 @@ sound t h =
     let m = marksSound g (t .luns) in
     let s = sequenceSound g (t .decoder .sequence) in
     let o = outputSound g (t .decoder .output) in
-    let p = both (t .powered && inLimits g && ltb (t .selected) (g .luns) && m && s) o h in
-    let q = both (t .powered && inLimits g && ltb (t .selected) (g .luns) && m) s (p .0) in
-    let r = both4 (t .powered) (inLimits g) (ltb (t .selected) (g .luns)) m (q .0) in
-    record { powered = r .0; limited = r .1; selected = ltb-true _ _ (r .2); marks = r .3; sequence = q .1; output = p .1 }
+    let w = wordsSound g (t .words) in
+    let l = ltb (t .selected) (g .luns) in
+    let p = both (t .powered && inLimits g && w && l && m && s) o h in
+    let q = both (t .powered && inLimits g && w && l && m) s (p .0) in
+    let r = both5 (t .powered) (inLimits g) w l m (q .0) in
+    record {
+      powered = r .0;
+      limited = r .1;
+      words = r .2;
+      selected = ltb-true _ _ (r .3);
+      marks = r .4;
+      sequence = q .1;
+      output = p .1;
+    }
 
 -- a program's place and its row
-pub filling-place : (g : Geometry) (r : Row) (at : Column) → sequenceSound g (Filling r at) ≡ true → at .0 ≤ g .page
-filling-place g r at h = leb-true _ _ (both (leb (at .0) (g .page)) (rowExists g r) h .0)
+pub filling-place : (g : Geometry) (k : Fill) → sequenceSound g (Filling k) ≡ true → k .at .0 ≤ pageSize g
+filling-place g k h = leb-true _ _ (both (leb (k .at .0) (pageSize g)) (rowExists g (k .row)) h .0)
 
-pub filling-row : (g : Geometry) (r : Row) (at : Column) → sequenceSound g (Filling r at) ≡ true → rowExists g r ≡ true
-filling-row g r at h = both (leb (at .0) (g .page)) (rowExists g r) h .1
-
--- an erase that is due has its block
-pub erase-block : (g : Geometry) (c : Column) (r : Row) → dueSound g Erase c r ≡ true → blockExists g r ≡ true
-erase-block g c r h = both (eqb (c .0) 0) (blockExists g r) h .1
+pub filling-row : (g : Geometry) (k : Fill) → sequenceSound g (Filling k) ≡ true → rowExists g (k .row) ≡ true
+filling-row g k h = both (leb (k .at .0) (pageSize g)) (rowExists g (k .row)) h .1
 
 -- a register that is put out lies within
-pub register-place : (g : Geometry) (l : ℕ) (c : Column) → outputSound g (output.Register l c) ≡ true → (l < g .luns) × (c .0 ≤ g .page)
+pub register-place : (g : Geometry) (l : ℕ) (c : Column) → outputSound g (output.Register l c) ≡ true → (l < g .luns) × (c .0 ≤ pageSize g)
 register-place g l c h =
-    let p = both (ltb l (g .luns)) (leb (c .0) (g .page)) h in
+    let p = both (ltb l (g .luns)) (leb (c .0) (pageSize g)) h in
     (ltb-true _ _ (p .0), leb-true _ _ (p .1))
 
 -- no place is near the end of the numbers
-place-in : (g : Geometry) → Limits g → (s : Sequence) → sequenceSound g s ≡ true → placeIn s < 65536
+place-in : (g : Geometry) → Limits g → (s : Sequence) → sequenceSound g s ≡ true → placeIn (taking s) < 65536
 place-in g m Idle h = omega arith
-place-in g m (Columns f got low) h = omega arith
-place-in g m (Rows f c got low mid) h = omega arith
+place-in g m (Columns k) h = omega arith
+place-in g m (Rows k) h = omega arith
 place-in g m (Single f) h = omega arith
-place-in g m (Due f c r) h = omega arith
-place-in g m (Filling r at) h = omega (arith, filling-place g r at h)
-place-in g m (Moving r got low) h = omega arith
-place-in g m (Setting got value) h = omega arith
+place-in g m (Due k) h = omega arith
+place-in g m (Filling k) h = omega (arith, filling-place g k h)
+place-in g m (Moving k) h = omega arith
+place-in g m (Setting k) h = omega arith
 
 place-out : (g : Geometry) → Limits g → (o : Output) → outputSound g o ≡ true → placeOut o < 65536
 place-out g m output.Nothing h = omega arith
@@ -83,7 +90,7 @@ place-out g m (output.Ids at) h = omega (arith, leb-true at 2 h)
 place-out g m (output.Signature at) h = omega (arith, leb-true at 4 h)
 place-out g m (output.Feature at) h = omega (arith, leb-true at 4 h)
 
-pub places-small : (t : Target) → recordSound t ≡ true → (placeIn (t .decoder .sequence) < 65536) × (placeOut (t .decoder .output) < 65536)
+pub places-small : (t : Target) → recordSound t ≡ true → (placeIn (taking (t .decoder .sequence)) < 65536) × (placeOut (t .decoder .output) < 65536)
 places-small t h =
     let k = sound t h in
     let m = limits (t .geometry) (k .limited) in
@@ -100,8 +107,8 @@ pub passes : (t : Target) (params array registers counts flags : List ℕ) → u
 unfolding usable sized
 passes t params array registers counts flags h =
     let g = t .geometry in
-    let a = eqb (length array) (g .luns * g .blocks * g .pages * g .page) in
-    let r = eqb (length registers) (g .luns * g .page) in
+    let a = eqb (length array) (g .luns * g .blocks * g .pages * pageSize g) in
+    let r = eqb (length registers) (g .luns * pageSize g) in
     let n = eqb (length counts) (g .luns * g .blocks * g .pages) in
     let f = eqb (length flags) (g .luns * g .blocks) in
     let p = both (recordSound t) (eqb (length params) 256 && (a && r && n && f)) h in

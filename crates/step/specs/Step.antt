@@ -8,6 +8,12 @@ use lib.Dec.{eqb}
 use Rattle.target.specs.Pick.{pick}
 use Rattle.target.specs.Sizes.{pageSize}
 use Rattle.target.specs.Address.{lunOf, blockExists, rowExists}
+use Rattle.target.specs.Commands.{secondRow}
+use Rattle.target.specs.declared.Row.{Row}
+use Rattle.target.specs.declared.commands.Act.{Act}
+use Rattle.target.specs.declared.commands.Act.the-variants as act
+use Rattle.target.specs.declared.views.Ender.{Ender}
+use Rattle.target.specs.declared.views.Ender.the-variants as ender
 use Rattle.target.specs.declared.Event.{Event}
 use Rattle.target.specs.declared.Geometry.{Geometry}
 use Rattle.target.specs.declared.Target.{Target}
@@ -94,3 +100,15 @@ Ready g (work.Load r) counts = rowExists g r ≡ true
 Ready g (work.Put l c v) counts = (l < g .luns) × (c .0 < pageSize g)
 Ready g (work.Program r) counts = (rowExists g r ≡ true) × (getD counts (pageIndex g r) 0 < 255)
 Ready g (work.Erase r) counts = blockExists g r ≡ true
+
+-- what a second command works on is there: the page for 30h and 10h, the block for D0h
+unfoldable pub Reaches : Geometry → Act → Row → Type 0
+Reaches g act.Nothing r = Unit
+Reaches g act.Load r = rowExists g r ≡ true
+Reaches g act.Program r = rowExists g r ≡ true
+Reaches g act.Erase r = blockExists g r ≡ true
+Reaches g act.Move r = Unit
+
+unfoldable pub EnderReaches : Geometry → Ender → Type 0
+EnderReaches g ender.Nothing = Unit
+EnderReaches g (ender.By k) = Reaches g (secondRow (k .second) .act) (k .row)

@@ -8,7 +8,7 @@ use slices::put;
 use slices::put_part;
 use target::Column;
 use target::Event;
-use target::First;
+use target::Findings;
 use target::Geometry;
 use target::Output;
 use target::Row;
@@ -18,21 +18,25 @@ use target::Work;
 use target::address::block_of;
 use target::address::lun_of;
 use target::address::page_of;
+use target::commands::Act;
+use target::commands::second_row;
 use target::picks::pick_byte;
-use target::place::failed;
-use target::place::works;
+use target::records::failed;
+use target::records::works;
+use target::sizes::page_size;
+use target::views::Ender;
+use target::views::ending;
 ghost use mathlib.Core.Path.{_≡_};
 ghost use mathlib.Core.Bool.{true};
 ghost use Prim.Native.Nat.{_+_, _*_, _≤_, _<_};
 ghost use lib.ListN.{length, getD, set};
 ghost use Rattle.target.specs.Pick.{pick};
 ghost use Rattle.target.specs.Address.{rowExists, blockExists};
-ghost use Rattle.target.specs.Sizes.{inLimits};
-ghost use Rattle.target.specs.declared.Column.{Column};
+ghost use Rattle.target.specs.Sizes.{pageSize, inLimits};
 ghost use Rattle.target.specs.declared.Work.the-variants as work;
-ghost use Rattle.step.specs.Usable.{dueSound, sequenceSound, outputSound};
-ghost use Rattle.step.specs.Buffers.{blockIndex, pageIndex, registersAfter, arrayAfter, countsAfter, blockBad, pageFull, dueSpoilt, commandSpoilt, spoiltBy, statusOf, outputByte};
-ghost use Rattle.step.specs.Step.{Sizes, Ready};
+ghost use Rattle.step.specs.Usable.{sequenceSound, outputSound};
+ghost use Rattle.step.specs.Buffers.{blockIndex, pageIndex, registersAfter, arrayAfter, countsAfter, blockBad, pageFull, proceeds, endedFindings, findings, statusOf, outputByte};
+ghost use Rattle.step.specs.Step.{Sizes, Ready, Reaches, EnderReaches};
 
 pub fn block_index(g: Geometry, r: Row) -> usize
     requires { ⌜ (inLimits g ≡ true) × (blockExists g r ≡ true) ⌝ }
@@ -63,69 +67,49 @@ pub fn page_full(g: Geometry, r: Row, counts: &[u8]) -> bool
     g.programs <= n
 }
 
-pub fn due_spoilt(g: Geometry, f: First, r: Row, flags: &[u8]) -> bool
+// A program does not proceed on a bad block or a full page, an erase not on a bad block.
+pub fn proceeds(g: Geometry, a: Act, r: Row, counts: &[u8], flags: &[u8]) -> bool
     requires { ⌜ inLimits g ≡ true ⌝ }
-    requires { ⌜ ((c : Column) × (dueSound g f c r ≡ true)) ⌝ }
-    ensures { λ b. ⌜ b ≡ dueSpoilt g f r (now (flags .entry)) ⌝ }
+    requires { ⌜ Reaches g a r ⌝ }
+    ensures { λ b. ⌜ b ≡ proceeds g a r (now (counts .entry)) (now (flags .entry)) ⌝ }
 {
-    match f {
-        First::Read => false,
-        First::Jump => false,
-        First::Fetch => false,
-        First::Erase => block_bad(g, r, flags),
-        First::Status => false,
-        First::Look => false,
-        First::Program => false,
-        First::Identify => false,
-        First::Parameters => false,
-        First::GetFeature => false,
-        First::SetFeature => false,
+    match a {
+        Act::Nothing => true,
+        Act::Load => true,
+        Act::Program => !(block_bad(g, r, flags) | page_full(g, r, counts)),
+        Act::Erase => !block_bad(g, r, flags),
+        Act::Move => true,
     }
 }
 
-pub fn command_spoilt(g: Geometry, s: Sequence, counts: &[u8], flags: &[u8]) -> bool
-    requires { ⌜ (inLimits g ≡ true) × (sequenceSound g s ≡ true) ⌝ }
-    ensures { λ b. ⌜ b ≡ commandSpoilt g s (now (counts .entry)) (now (flags .entry)) ⌝ }
+pub fn ended_findings(g: Geometry, k: Ender, counts: &[u8], flags: &[u8]) -> Findings
+    requires { ⌜ inLimits g ≡ true ⌝ }
+    requires { ⌜ EnderReaches g k ⌝ }
+    ensures { λ r. ⌜ r ≡ endedFindings g k (now (counts .entry)) (now (flags .entry)) ⌝ }
 {
-    match s {
-        Sequence::Idle => false,
-        Sequence::Columns {
-            first: _,
-            got: _,
-            low: _,
-        } => false,
-        Sequence::Rows {
-            first: _,
-            column: _,
-            got: _,
-            low: _,
-            mid: _,
-        } => false,
-        Sequence::Single { first: _ } => false,
-        Sequence::Due {
-            first,
-            column: _,
-            row,
-        } => due_spoilt(g, first, row, flags),
-        Sequence::Filling { row, at: _ } => block_bad(g, row, flags) | page_full(g, row, counts),
-        Sequence::Moving {
-            row: _,
-            got: _,
-            low: _,
-        } => false,
-        Sequence::Setting { got: _, value: _ } => false,
+    match k {
+        Ender::Nothing => Findings { proceeds: true },
+        Ender::By(k) => {
+            let second = k.second;
+            let r = k.row;
+            let row = second_row(second);
+            let a = row.act;
+            Findings {
+                proceeds: proceeds(g, a, r, counts, flags),
+            }
+        }
     }
 }
 
-// Only a command can start work that does not proceed.
-pub fn spoilt(g: Geometry, s: Sequence, e: Event, counts: &[u8], flags: &[u8]) -> bool
+// What the buffers say of the event that comes: only a command can start work that does not proceed.
+pub fn findings(g: Geometry, s: Sequence, e: Event, counts: &[u8], flags: &[u8]) -> Findings
     requires { ⌜ (inLimits g ≡ true) × (sequenceSound g s ≡ true) ⌝ }
-    ensures { λ b. ⌜ b ≡ spoiltBy g s e (now (counts .entry)) (now (flags .entry)) ⌝ }
+    ensures { λ r. ⌜ r ≡ findings g s e (now (counts .entry)) (now (flags .entry)) ⌝ }
 {
     if e.kind == 0 {
-        command_spoilt(g, s, counts, flags)
+        ended_findings(g, ending(s, e.value), counts, flags)
     } else {
-        false
+        Findings { proceeds: true }
     }
 }
 
@@ -152,7 +136,7 @@ pub fn output_byte(t: Target, params: &[u8], registers: &[u8], o: Output) -> u8
     let ids = t.ids;
     match o {
         Output::Nothing => 0,
-        Output::Register { lun, column } => byte_at(registers, lun * g.page + column.0),
+        Output::Register { lun, column } => byte_at(registers, lun * page_size(g) + column.0),
         Output::Parameters { at } => byte_at(params, at % 256),
         Output::Status { lun } => status(t, lun),
         Output::Ids { at } => pick_byte(at == 0, ids.maker, ids.device),
@@ -168,10 +152,10 @@ pub fn output_byte(t: Target, params: &[u8], registers: &[u8], o: Output) -> u8
 // 30h: the page into its LUN's register.
 pub fn load(g: Geometry, r: Row, array: &[u8], registers: &mut [u8])
     requires { ⌜ (inLimits g ≡ true) × (rowExists g r ≡ true) ⌝ }
-    requires { ⌜ (length (now array) ≡ g .luns * g .blocks * g .pages * g .page) × (length (now registers) ≡ g .luns * g .page) ⌝ }
+    requires { ⌜ (length (now array) ≡ g .luns * g .blocks * g .pages * pageSize g) × (length (now registers) ≡ g .luns * pageSize g) ⌝ }
     ensures { λ _. ⌜ now (registers .exit) ≡ registersAfter g (work.Load r) (now (array .entry)) (now (registers .entry)) ⌝ }
 {
-    let p = g.page;
+    let p = page_size(g);
     let at = lun_of(g, r) * p;
     let from = page_index(g, r) * p;
     copy_part(registers, at, p, array, from)
@@ -179,10 +163,10 @@ pub fn load(g: Geometry, r: Row, array: &[u8], registers: &mut [u8])
 
 // A data-in byte: the addressed LUN's part of the register buffer is lent on, and written at the column.
 pub fn store(g: Geometry, l: usize, c: Column, v: u8, registers: &mut [u8])
-    requires { ⌜ (l < g .luns) × (c .0 < g .page) × (length (now registers) ≡ g .luns * g .page) ⌝ }
+    requires { ⌜ (l < g .luns) × (c .0 < pageSize g) × (length (now registers) ≡ g .luns * pageSize g) ⌝ }
     ensures { λ _. ⌜ now (registers .exit) ≡ registersAfter g (work.Put l c v) (now (registers .entry)) (now (registers .entry)) ⌝ }
 {
-    let p = g.page;
+    let p = page_size(g);
     let i = c.0;
     put_part(registers, l * p, p, i, v)
 }
@@ -194,7 +178,7 @@ pub fn burn(g: Geometry, r: Row, array: &mut [u8], registers: &[u8], counts: &mu
     ensures array { λ _. ⌜ now (array .exit) ≡ arrayAfter g (work.Program r) (now (array .entry)) (now (registers .entry)) ⌝ }
     ensures counts { λ _. ⌜ now (counts .exit) ≡ countsAfter g (work.Program r) (now (counts .entry)) ⌝ }
 {
-    let p = g.page;
+    let p = page_size(g);
     let i = page_index(g, r);
     let from = lun_of(g, r) * p;
     and_part(array, i * p, p, registers, from);
@@ -205,11 +189,11 @@ pub fn burn(g: Geometry, r: Row, array: &mut [u8], registers: &[u8], counts: &mu
 // D0h: the block's bytes FFh, its counts 0.
 pub fn wipe(g: Geometry, r: Row, array: &mut [u8], counts: &mut [u8])
     requires { ⌜ (inLimits g ≡ true) × (blockExists g r ≡ true) ⌝ }
-    requires { ⌜ (length (now array) ≡ g .luns * g .blocks * g .pages * g .page) × (length (now counts) ≡ g .luns * g .blocks * g .pages) ⌝ }
+    requires { ⌜ (length (now array) ≡ g .luns * g .blocks * g .pages * pageSize g) × (length (now counts) ≡ g .luns * g .blocks * g .pages) ⌝ }
     ensures array { λ _. ⌜ now (array .exit) ≡ arrayAfter g (work.Erase r) (now (array .entry)) (now (array .entry)) ⌝ }
     ensures counts { λ _. ⌜ now (counts .exit) ≡ countsAfter g (work.Erase r) (now (counts .entry)) ⌝ }
 {
-    let p = g.page;
+    let p = page_size(g);
     let n = g.pages;
     let first = block_index(g, r) * n;
     fill_part(array, first * p, n * p, 0xff);
@@ -217,10 +201,10 @@ pub fn wipe(g: Geometry, r: Row, array: &mut [u8], counts: &mut [u8])
 }
 
 pub fn clear_one(g: Geometry, l: usize, registers: &mut [u8])
-    requires { ⌜ (l < g .luns) × (length (now registers) ≡ g .luns * g .page) ⌝ }
+    requires { ⌜ (l < g .luns) × (length (now registers) ≡ g .luns * pageSize g) ⌝ }
     ensures { λ _. ⌜ now (registers .exit) ≡ registersAfter g (work.ClearOne l) (now (registers .entry)) (now (registers .entry)) ⌝ }
 {
-    let p = g.page;
+    let p = page_size(g);
     fill_part(registers, l * p, p, 0xff)
 }
 

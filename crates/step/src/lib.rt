@@ -4,10 +4,10 @@ pub mod usable;
 
 use effects::target_after;
 use effects::target_refused;
-use effects::work_of;
+use effects::works::work_of;
+use buffers::findings;
 use buffers::output_byte;
 use buffers::perform;
-use buffers::spoilt;
 use rules::decide;
 use target::Event;
 use target::Refusal;
@@ -60,11 +60,11 @@ fn accept(
     let g = t.geometry;
     let d = t.decoder;
     let s = d.sequence;
-    let bad = spoilt(g, s, e, counts, flags);
+    let found = findings(g, s, e, counts, flags);
     let reply = reply_of(t, e, params, registers);
-    let w = work_of(g, t.clear, s, e, bad);
+    let w = work_of(g, t.clear, s, e, found);
     perform(g, w, array, registers, counts);
-    let n = target_after(t, e, bad);
+    let n = target_after(t, e, found);
     Stepped { reply, target: n }
 }
 

@@ -1,48 +1,68 @@
 // Rule 13: the record's numbers, each taken by itself, and the lengths of the lent buffers.
+use rules::row_fits;
 use target::Column;
+use target::Fill;
 use target::First;
 use target::Geometry;
 use target::Luns;
 use target::Output;
 use target::Row;
+use target::RowCycles;
 use target::Sequence;
 use target::Target;
-use target::address::block_exists;
-use target::address::lun_exists;
+use target::Wait;
+use target::Words;
 use target::address::row_exists;
+use target::bits::has_feature;
 use target::commands::cycles_of;
 use target::commands::takes_column;
 use target::commands::takes_row;
+use target::commands::waits_second;
 use target::picks::pick_bool;
-use target::place::failed;
-use target::place::works;
+use target::records::is_ready;
+use target::records::lun_at;
 use target::sizes::in_limits;
+use target::sizes::page_size;
 use target::sizes::sized;
 ghost use mathlib.Core.Path.{_≡_};
-ghost use Rattle.step.specs.Usable.{columnHeld, dueSound, sequenceSound, outputSound, markSound, marksSound, recordSound, usable};
+ghost use Rattle.target.specs.declared.Sequence.the-variants as sequence;
+ghost use Rattle.step.specs.Usable.{columnHeld, rowHeld, sequenceSound, outputSound, markSound, marksSound, wordsSound, recordSound, usable};
 
 pub fn column_held(g: Geometry, f: First, c: Column) -> bool
     ensures { λ b. ⌜ b ≡ columnHeld g f c ⌝ }
 {
-    pick_bool(takes_column(f), c.0 < g.page, c.0 == 0)
+    pick_bool(takes_column(f), c.0 < page_size(g), c.0 == 0)
 }
 
-pub fn due_sound(g: Geometry, f: First, c: Column, r: Row) -> bool
-    ensures { λ b. ⌜ b ≡ dueSound g f c r ⌝ }
+pub fn row_held(g: Geometry, f: First, r: Row) -> bool
+    ensures { λ b. ⌜ b ≡ rowHeld g f r ⌝ }
 {
-    match f {
-        First::Read => (c.0 < g.page) & row_exists(g, r),
-        First::Jump => (c.0 < g.page) & (r.0 == 0),
-        First::Fetch => (c.0 < g.page) & lun_exists(g, r),
-        First::Erase => (c.0 == 0) & block_exists(g, r),
-        First::Status => false,
-        First::Look => false,
-        First::Program => false,
-        First::Identify => false,
-        First::Parameters => false,
-        First::GetFeature => false,
-        First::SetFeature => false,
-    }
+    pick_bool(takes_row(f), row_fits(g, f, r), r.0 == 0)
+}
+
+pub fn rows_sound(g: Geometry, k: RowCycles) -> bool
+    ensures { λ b. ⌜ b ≡ sequenceSound g (sequence.Rows k) ⌝ }
+{
+    let f = k.first;
+    let c = k.column;
+    takes_row(f) & (k.got < 3) & column_held(g, f, c)
+}
+
+pub fn wait_sound(g: Geometry, k: Wait) -> bool
+    ensures { λ b. ⌜ b ≡ sequenceSound g (sequence.Due k) ⌝ }
+{
+    let f = k.first;
+    let c = k.column;
+    let r = k.row;
+    waits_second(f) & column_held(g, f, c) & row_held(g, f, r)
+}
+
+pub fn fill_sound(g: Geometry, k: Fill) -> bool
+    ensures { λ b. ⌜ b ≡ sequenceSound g (sequence.Filling k) ⌝ }
+{
+    let at = k.at;
+    let r = k.row;
+    (at.0 <= page_size(g)) & row_exists(g, r)
 }
 
 pub fn sequence_sound(g: Geometry, s: Sequence) -> bool
@@ -50,19 +70,19 @@ pub fn sequence_sound(g: Geometry, s: Sequence) -> bool
 {
     match s {
         Sequence::Idle => true,
-        Sequence::Columns { first, got, low: _ } => takes_column(first) & (got < 2),
-        Sequence::Rows {
-            first,
-            column,
-            got,
-            low: _,
-            mid: _,
-        } => takes_row(first) & (got < 3) & column_held(g, first, column),
-        Sequence::Single { first } => cycles_of(first) == 1,
-        Sequence::Due { first, column, row } => due_sound(g, first, column, row),
-        Sequence::Filling { row, at } => (at.0 <= g.page) & row_exists(g, row),
-        Sequence::Moving { row, got, low: _ } => (got < 2) & row_exists(g, row),
-        Sequence::Setting { got, value } => (got < 4) & ((value == 0) | (value == 0x40)),
+        Sequence::Columns(k) => {
+            let f = k.first;
+            takes_column(f) & (k.got < 2)
+        }
+        Sequence::Rows(k) => rows_sound(g, k),
+        Sequence::Single(f) => cycles_of(f) == 1,
+        Sequence::Due(k) => wait_sound(g, k),
+        Sequence::Filling(k) => fill_sound(g, k),
+        Sequence::Moving(k) => {
+            let r = k.row;
+            (k.got < 2) & row_exists(g, r)
+        }
+        Sequence::Setting(k) => (k.got < 4) & ((k.value == 0) | (k.value == 0x40)),
     }
 }
 
@@ -71,7 +91,7 @@ pub fn output_sound(g: Geometry, o: Output) -> bool
 {
     match o {
         Output::Nothing => true,
-        Output::Register { lun, column } => (lun < g.luns) & (column.0 <= g.page),
+        Output::Register { lun, column } => (lun < g.luns) & (column.0 <= page_size(g)),
         Output::Parameters { at } => at <= 768,
         Output::Status { lun } => lun < g.luns,
         Output::Ids { at } => at <= 2,
@@ -83,7 +103,7 @@ pub fn output_sound(g: Geometry, o: Output) -> bool
 pub fn mark_sound(g: Geometry, luns: Luns, l: usize) -> bool
     ensures { λ b. ⌜ b ≡ markSound g luns l ⌝ }
 {
-    (l < g.luns) | (!works(luns, l) & !failed(luns, l))
+    (l < g.luns) | is_ready(lun_at(luns, l))
 }
 
 pub fn marks_sound(g: Geometry, luns: Luns) -> bool
@@ -95,16 +115,24 @@ pub fn marks_sound(g: Geometry, luns: Luns) -> bool
         & mark_sound(g, luns, 3)
 }
 
+pub fn words_sound(g: Geometry, w: Words) -> bool
+    ensures { λ b. ⌜ b ≡ wordsSound g w ⌝ }
+{
+    !has_feature(w, 0) & ((g.luns <= 1) | has_feature(w, 1))
+}
+
 pub fn record_sound(t: Target) -> bool
     ensures { λ b. ⌜ b ≡ recordSound t ⌝ }
 {
     let g = t.geometry;
     let luns = t.luns;
+    let words = t.words;
     let d = t.decoder;
     let s = d.sequence;
     let o = d.output;
     t.powered
         & in_limits(g)
+        & words_sound(g, words)
         & (t.selected < g.luns)
         & marks_sound(g, luns)
         & sequence_sound(g, s)

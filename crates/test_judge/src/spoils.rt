@@ -12,18 +12,31 @@ use crate::random::below;
 use crate::records::row_of;
 use target::Column;
 use target::Decoder;
+use target::FeatureBytes;
+use target::Fill;
 use target::First;
 use target::Geometry;
 use target::Lun;
+use target::Moved;
 use target::Output;
 use target::Row;
 use target::Sequence;
 use target::Target;
+use target::Wait;
+use target::sizes::page_size;
 
 fn spoil_geometry(g: Geometry, what: usize) -> Geometry {
     match what {
-        1 => Geometry { page: 15, ..g },
-        2 => Geometry { page: 18433, ..g },
+        1 => Geometry {
+            bytes: 15,
+            spare: 0,
+            ..g
+        },
+        2 => Geometry {
+            bytes: 16385,
+            spare: 2048,
+            ..g
+        },
         3 => Geometry { pages: 0, ..g },
         4 => Geometry { pages: 257, ..g },
         5 => Geometry { blocks: 0, ..g },
@@ -69,7 +82,7 @@ fn spoil_number(t: Target, what: usize) -> Target {
 
 // Spoils of the output, and from 25 on their legal neighbours.
 fn spoil_output(g: Geometry, what: usize) -> Output {
-    let end = g.page;
+    let end = page_size(g);
     match what {
         18 => Output::Register {
             lun: 0,
@@ -97,54 +110,68 @@ fn spoil_output(g: Geometry, what: usize) -> Output {
 
 // A sequence whose addresses have all come: its second command is due, or it takes data.
 fn due(first: First, column: usize, row: usize) -> Sequence {
-    Sequence::Due {
+    let wait = Wait {
         first,
         column: Column(column),
         row: Row(row),
-    }
+    };
+    Sequence::Due(wait)
 }
 
 fn filling(row: usize, at: usize) -> Sequence {
-    Sequence::Filling {
+    let fill = Fill {
         row: Row(row),
         at: Column(at),
-    }
+    };
+    Sequence::Filling(fill)
+}
+
+fn moving(row: usize) -> Sequence {
+    let moved = Moved {
+        row: Row(row),
+        got: 0,
+        low: 0,
+    };
+    Sequence::Moving(moved)
+}
+
+fn setting(got: u8) -> Sequence {
+    let bytes = FeatureBytes { got, value: 0 };
+    Sequence::Setting(bytes)
 }
 
 // Spoils of the sequence.
 fn spoil_sequence(p: Geometry, g: &State, what: usize) -> Sequence {
     let past = row_of(g, p.luns, 0, 0);
+    let end = page_size(p);
     match what {
-        31 => due(First::Read, p.page, 0),
+        31 => due(First::Read, end, 0),
         32 => due(First::Read, 0, past),
-        33 => filling(0, add(p.page, 1)),
+        33 => filling(0, add(end, 1)),
         34 => filling(past, 0),
         35 => due(First::Erase, 0, past),
-        36 => due(First::Fetch, 0, past),
-        37 => due(First::Jump, p.page, 0),
-        38 => Sequence::Setting { got: 4, value: 0 },
+        36 => due(First::ChangeColumnEnhanced, 0, past),
+        37 => due(First::ChangeColumn, end, 0),
+        38 => setting(4),
         39 => due(First::Erase, 0, row_of(g, 0, p.blocks, 0)),
         40 => filling(row_of(g, 0, 0, p.pages), 0),
         41 => due(First::Read, 0, row_of(g, 0, p.blocks, 0)),
-        _ => Sequence::Moving {
-            row: Row(past),
-            got: 0,
-            low: 0,
-        },
+        _ => moving(past),
     }
 }
 
 // Legal neighbours of these: the largest numbers each field may hold.
 fn legal_sequence(p: Geometry, g: &State, what: usize) -> Sequence {
     let lun = sub(p.luns, 1);
-    let column = sub(p.page, 1);
+    let end = page_size(p);
+    let column = sub(end, 1);
     let block = sub(power(g[place::BLOCK_BITS]), 1);
     let page = sub(power(g[place::PAGE_BITS]), 1);
     let last = sub(p.blocks, 1);
     match what {
-        43 => filling(row_of(g, lun, 0, 0), p.page),
+        43 => filling(row_of(g, lun, 0, 0), end),
         44 => due(First::Erase, 0, row_of(g, lun, last, page)),
-        45 => due(First::Fetch, column, row_of(g, lun, block, page)),
+        45 => due(First::ChangeColumnEnhanced, column, row_of(g, lun, block, page)),
         _ => due(First::Read, column, row_of(g, lun, last, sub(p.pages, 1))),
     }
 }
@@ -195,7 +222,7 @@ pub fn follow_geometry(t: Target, g: &mut State) {
     let p = t.geometry;
     let blocks = times(p.luns, p.blocks);
     let pages = times(blocks, p.pages);
-    lend(g, blocks, pages, p.luns, p.page);
+    lend(g, blocks, pages, p.luns, page_size(p));
 }
 
 fn fills_bits(n: usize) -> bool {

@@ -23,6 +23,10 @@ or-true false = refl
 pub or-left : (a b : Bool) → a ≡ true → (a || b) ≡ true
 or-left a b h = rw h
 
+pub opposite : (a : Bool) → a ≡ true → not a ≡ true → ⊥
+opposite true h k = false≢true k
+opposite false h k = false≢true h
+
 -- where `a and b` fails and a holds, b fails
 pub then-not : (a b : Bool) → (a && b) ≡ false → a ≡ true → b ≡ false
 then-not true b h e = h

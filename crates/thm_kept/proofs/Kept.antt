@@ -12,21 +12,23 @@ use lib.Dec.{eqb, ltb}
 use borrow.Author.Tests.{ltb-true, lt-ltb}
 use Rattle.target.specs.Pick.{pick}
 use Rattle.target.specs.Events.{isBus, badRecord}
-use Rattle.target.specs.Place.{works}
+use Rattle.target.specs.Luns.{works}
+use Rattle.target.specs.Views.{completed, taking}
 use Rattle.target.specs.Sizes.{inLimits, sized}
 use Rattle.target.specs.declared.Event.{Event}
 use Rattle.target.specs.declared.Decoder.{Decoder}
 use Rattle.target.specs.declared.Geometry.{Geometry}
 use Rattle.target.specs.declared.Target.{Target}
+use Rattle.target.specs.declared.Findings.{Findings}
 use Rattle.target.specs.declared.Verdict.{Verdict}
 use Rattle.target.specs.declared.Verdict.the-variants as verdicts
 use Rattle.target.proofs.Both.{both, neither, meant}
 use Rattle.target.proofs.Limits.{Limits, limits}
 use Rattle.rules.specs.Rules.{beyond, dataEnded, outputEnded, unoffered, outputWorks, namesWorking, outOfRange, notOffered, pastEnd, notWorking, verdict}
 use Rattle.rules.proofs.Passed.{Passed, all-passed}
-use Rattle.effects.specs.After.{dropped, selectedAfter, lunsAfter, sequenceAfter, outputAfter, workOf, targetAfter, targetRefused}
-use Rattle.step.specs.Usable.{marksSound, sequenceSound, outputSound, recordSound, usable}
-use Rattle.step.specs.Buffers.{spoiltBy}
+use Rattle.effects.specs.Effects.{dropped, selectedAfter, lunsAfter, sequenceAfter, outputAfter, workOf, targetAfter, targetRefused}
+use Rattle.step.specs.Usable.{wordsSound, marksSound, sequenceSound, outputSound, recordSound, usable}
+use Rattle.step.specs.Buffers.{findings}
 use Rattle.step.specs.Step.{Buffers, Outcome, worked, acceptedBy, accepted, byVerdict, steady, stepOf}
 use Rattle.step.proofs.Sound.{Sound, sound, Passes, passes}
 use Rattle.step.proofs.WorkReady.{work-ready}
@@ -37,39 +39,42 @@ use Rattle.thm_kept.proofs.Marks.{marks-kept}
 use Rattle.thm_kept.proofs.Lengths.{array-length, registers-length, counts-length}
 
 -- a record with sound parts is sound
-pub all-sound : (t : Target) → t .powered ≡ true → inLimits (t .geometry) ≡ true → t .selected < t .geometry .luns → marksSound (t .geometry) (t .luns) ≡ true → sequenceSound (t .geometry) (t .decoder .sequence) ≡ true → outputSound (t .geometry) (t .decoder .output) ≡ true → recordSound t ≡ true
+pub all-sound : (t : Target) → t .powered ≡ true → inLimits (t .geometry) ≡ true → wordsSound (t .geometry) (t .words) ≡ true → t .selected < t .geometry .luns → marksSound (t .geometry) (t .luns) ≡ true → sequenceSound (t .geometry) (t .decoder .sequence) ≡ true → outputSound (t .geometry) (t .decoder .output) ≡ true → recordSound t ≡ true
 unfolding recordSound
-all-sound t a b c d e f =
+all-sound t a b c d e f h =
     let g = t .geometry in
+    let w = wordsSound g (t .words) in
+    let l = ltb (t .selected) (g .luns) in
     let m = marksSound g (t .luns) in
     let s = sequenceSound g (t .decoder .sequence) in
     let o = outputSound g (t .decoder .output) in
-    let l = ltb (t .selected) (g .luns) in
-    and-true (t .powered && inLimits g && l && m && s) o
-    (and-true (t .powered && inLimits g && l && m) s
-    (and-true (t .powered && inLimits g && l) m
-    (and-true (t .powered && inLimits g) l (and-true (t .powered) (inLimits g) a b) (lt-ltb _ _ c))
-    d)
+    and-true (t .powered && inLimits g && w && l && m && s) o
+    (and-true (t .powered && inLimits g && w && l && m) s
+    (and-true (t .powered && inLimits g && w && l) m
+    (and-true (t .powered && inLimits g && w) l
+    (and-true (t .powered && inLimits g) w (and-true (t .powered) (inLimits g) a b) c)
+    (lt-ltb _ _ d))
     e)
-    f
+    f)
+    h
 
 -- what an accepted event has passed, by its kind
 module _ (t : Target) (e : Event) (p : Passed t e) where
-  pub near : eqb (e .kind) 1 ≡ true → beyond (t .geometry) (t .decoder .sequence) (e .value) ≡ false
+  pub near : eqb (e .kind) 1 ≡ true → beyond (t .geometry) (completed (t .decoder .sequence) (e .value)) ≡ false
   unfolding outOfRange
   near is = then-not (eqb (e .kind) 1) _ (p .rule-4) is
 
-  pub taken : eqb (e .kind) 2 ≡ true → (dataEnded (t .geometry) (t .decoder .sequence) ≡ false) × (unoffered (t .options) (t .decoder .sequence) (e .value) ≡ false)
+  pub taken : eqb (e .kind) 2 ≡ true → (dataEnded (t .geometry) (taking (t .decoder .sequence)) ≡ false) × (unoffered (t .words) (taking (t .decoder .sequence)) (e .value) ≡ false)
   unfolding pastEnd notOffered
   taken is = (
-    then-not (eqb (e .kind) 2) _ (neither (eqb (e .kind) 2 && dataEnded (t .geometry) (t .decoder .sequence)) (eqb (e .kind) 3 && outputEnded (t .geometry) (t .decoder .output)) (p .rule-8) .0) is,
+    then-not (eqb (e .kind) 2) _ (neither (eqb (e .kind) 2 && dataEnded (t .geometry) (taking (t .decoder .sequence))) (eqb (e .kind) 3 && outputEnded (t .geometry) (t .decoder .output)) (p .rule-8) .0) is,
     then-not (eqb (e .kind) 2) _ (p .rule-9) is,
   )
 
   pub more : eqb (e .kind) 3 ≡ true → outputEnded (t .geometry) (t .decoder .output) ≡ false
   unfolding pastEnd
   more is =
-      then-not (eqb (e .kind) 3) _ (neither (eqb (e .kind) 2 && dataEnded (t .geometry) (t .decoder .sequence)) (eqb (e .kind) 3 && outputEnded (t .geometry) (t .decoder .output)) (p .rule-8) .1) is
+      then-not (eqb (e .kind) 3) _ (neither (eqb (e .kind) 2 && dataEnded (t .geometry) (taking (t .decoder .sequence))) (eqb (e .kind) 3 && outputEnded (t .geometry) (t .decoder .output)) (p .rule-8) .1) is
 
   pub finishes : eqb (e .kind) 4 ≡ true → e .value < t .geometry .luns
   unfolding notWorking
@@ -78,16 +83,16 @@ module _ (t : Target) (e : Event) (p : Passed t e) where
       let busy = works (t .luns) (e .value) in
       ltb-true _ _ (both named busy (meant (eqb (e .kind) 4) (named && busy) (p .rule-10) is) .0)
 
-pub accepted-sound : (t : Target) (e : Event) (spoilt : Bool) → recordSound t ≡ true → Passed t e → recordSound (targetAfter t e spoilt) ≡ true
+pub accepted-sound : (t : Target) (e : Event) (found : Findings) → recordSound t ≡ true → Passed t e → recordSound (targetAfter t e found) ≡ true
 unfolding targetAfter
-accepted-sound t e spoilt h p =
+accepted-sound t e found h p =
     let k = sound t h in
     let g = t .geometry in
     let m = limits g (k .limited) in
-    all-sound _ (k .powered) (k .limited)
+    all-sound _ (k .powered) (k .limited) (k .words)
     (selected-kept g (t .selected) (t .decoder .sequence) e (m .luns-min) (k .selected) (k .sequence) (near t e p))
-    (marks-kept g (t .luns) (t .decoder .sequence) e spoilt (k .sequence) (k .marks) (finishes t e p))
-    (sequence-kept g (t .options) (t .decoder .sequence) e (k .sequence) (near t e p) (taken t e p))
+    (marks-kept g (t .luns) (t .decoder .sequence) e found (k .sequence) (k .marks) (finishes t e p))
+    (sequence-kept g (t .words) (t .decoder .sequence) e (k .sequence) (near t e p) (taken t e p))
     (output-kept g (t .selected) (t .decoder) e (k .selected) (k .sequence) (k .output) (near t e p) (more t e p))
 
 pub refused-sound : (t : Target) (e : Event) → recordSound t ≡ true → recordSound (targetRefused t e) ≡ true
@@ -95,7 +100,7 @@ unfolding targetRefused
 refused-sound t e h =
     let k = sound t h in
     let g = t .geometry in
-    all-sound _ (k .powered) (k .limited) (k .selected) (k .marks)
+    all-sound _ (k .powered) (k .limited) (k .words) (k .selected) (k .marks)
     (by-pick (λ (d : Decoder). sequenceSound g (d .sequence) ≡ true) (isBus e && not (badRecord e)) dropped (t .decoder) (λ _. refl) (λ _. k .sequence))
     (by-pick (λ (d : Decoder). outputSound g (d .output) ≡ true) (isBus e && not (badRecord e)) dropped (t .decoder) (λ _. refl) (λ _. k .output))
 
@@ -112,14 +117,14 @@ refit t n params b c flags h k same x y z =
     (rw (same, x, y, z) rest)
 
 module _ (t : Target) (e : Event) (params : List ℕ) (b : Buffers) (flags : List ℕ) (h : Fit t params b flags) where
-  fit-accepted : verdict t e ≡ verdicts.Accepted → (spoilt : Bool) → spoilt ≡ spoiltBy (t .geometry) (t .decoder .sequence) e (b .counts) flags → Fit (acceptedBy t e params b spoilt .target) params (acceptedBy t e params b spoilt .buffers) flags
+  fit-accepted : verdict t e ≡ verdicts.Accepted → (found : Findings) → found ≡ findings (t .geometry) (t .decoder .sequence) e (b .counts) flags → Fit (acceptedBy t e params b found .target) params (acceptedBy t e params b found .buffers) flags
   unfolding acceptedBy worked targetAfter
-  fit-accepted v spoilt told =
+  fit-accepted v found told =
       let u = passes t params (b .array) (b .registers) (b .counts) flags h in
       let g = t .geometry in
-      let w = workOf g (t .clear) (t .decoder .sequence) e spoilt in
-      let ready = work-ready t e (b .counts) flags (u .record-sound) v spoilt told in
-      refit t (targetAfter t e spoilt) params b (worked g w b) flags h (accepted-sound t e spoilt (u .record-sound) (all-passed t e v)) refl
+      let w = workOf g (t .clear) (t .decoder .sequence) e found in
+      let ready = work-ready t e (b .counts) flags (u .record-sound) v found told in
+      refit t (targetAfter t e found) params b (worked g w b) flags h (accepted-sound t e found (u .record-sound) (all-passed t e v)) refl
       (array-length g (b .array) (b .registers) (b .counts) (u .sizes) w ready)
       (registers-length g (b .array) (b .registers) (b .counts) (u .sizes) w ready)
       (counts-length g (b .array) (b .registers) (b .counts) (u .sizes) w ready)

@@ -10,6 +10,7 @@ use Rattle.slices.specs.Cells.{splice, part, andBytes}
 use Rattle.slices.proofs.Splice.{length-splice, length-part, piece}
 use Rattle.slices.proofs.Anded.{length-and}
 use Rattle.target.specs.Address.{lunOf}
+use Rattle.target.specs.Sizes.{pageSize}
 use Rattle.target.specs.declared.Column.{Column}
 use Rattle.target.specs.declared.Row.{Row}
 use Rattle.target.specs.declared.Geometry.{Geometry}
@@ -33,27 +34,27 @@ module _ (g : Geometry) (array registers counts : List ℕ) (sizes : Sizes g arr
   array-length (work.Load r) ok = refl
   array-length (work.Put l c v) ok = refl
   array-length (work.Program r) ok =
-      let at = pageIndex g r * g .page in
-      let fits : at + g .page ≤ length array = omega (arith, page-bytes-end g r (ok .0), sizes .array-size) in
-      length-splice array at (g .page) _ fits (length-and (part array at (g .page)) (part registers (lunOf g r * g .page) (g .page)) ∙ part-length array at (g .page) fits)
+      let at = pageIndex g r * pageSize g in
+      let fits : at + pageSize g ≤ length array = omega (arith, page-bytes-end g r (ok .0), sizes .array-size) in
+      length-splice array at (pageSize g) _ fits (length-and (part array at (pageSize g)) (part registers (lunOf g r * pageSize g) (pageSize g)) ∙ part-length array at (pageSize g) fits)
   array-length (work.Erase r) ok =
-      let fits : blockIndex g r * g .pages * g .page + g .pages * g .page ≤ length array = omega (arith, block-bytes-end g r ok, sizes .array-size) in
-      length-splice array _ (g .pages * g .page) _ fits (length-replicate _ _)
+      let fits : blockIndex g r * g .pages * pageSize g + g .pages * pageSize g ≤ length array = omega (arith, block-bytes-end g r ok, sizes .array-size) in
+      length-splice array _ (g .pages * pageSize g) _ fits (length-replicate _ _)
 
   pub registers-length : (w : Work) → Ready g w counts → length (registersAfter g w array registers) ≡ length registers
   unfolding registersAfter Ready
   registers-length work.Nothing ok = refl
   registers-length work.ClearAll ok = length-replicate _ _
   registers-length (work.ClearOne l) ok =
-      let fits : l * g .page + g .page ≤ length registers = omega (arith, piece (g .page) ok, sizes .registers-size) in
-      length-splice registers _ (g .page) _ fits (length-replicate _ _)
+      let fits : l * pageSize g + pageSize g ≤ length registers = omega (arith, piece (pageSize g) ok, sizes .registers-size) in
+      length-splice registers _ (pageSize g) _ fits (length-replicate _ _)
   registers-length (work.Load r) ok =
-      let fits : lunOf g r * g .page + g .page ≤ length registers = omega (arith, register-end g r ok, sizes .registers-size) in
-      let from : pageIndex g r * g .page + g .page ≤ length array = omega (arith, page-bytes-end g r ok, sizes .array-size) in
-      length-splice registers _ (g .page) _ fits (part-length array _ (g .page) from)
+      let fits : lunOf g r * pageSize g + pageSize g ≤ length registers = omega (arith, register-end g r ok, sizes .registers-size) in
+      let from : pageIndex g r * pageSize g + pageSize g ≤ length array = omega (arith, page-bytes-end g r ok, sizes .array-size) in
+      length-splice registers _ (pageSize g) _ fits (part-length array _ (pageSize g) from)
   registers-length (work.Put l c v) ok =
-      let fits : l * g .page + g .page ≤ length registers = omega (arith, piece (g .page) (ok .0), sizes .registers-size) in
-      length-splice registers _ (g .page) _ fits (length-set (part registers (l * g .page) (g .page)) (c .0) v ∙ part-length registers _ (g .page) fits)
+      let fits : l * pageSize g + pageSize g ≤ length registers = omega (arith, piece (pageSize g) (ok .0), sizes .registers-size) in
+      length-splice registers _ (pageSize g) _ fits (length-set (part registers (l * pageSize g) (pageSize g)) (c .0) v ∙ part-length registers _ (pageSize g) fits)
   registers-length (work.Program r) ok = refl
   registers-length (work.Erase r) ok = refl
 

@@ -1,4 +1,6 @@
 pub mod Choice
+pub mod Commands
+pub mod Views
 pub mod Sequences
 pub mod Outputs
 pub mod Marks

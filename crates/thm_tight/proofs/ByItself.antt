@@ -7,10 +7,11 @@ use Prim.Native.Nat.{ℕ, _<_}
 use lib.ListN.{length}
 use lib.Dec.{eqb, ltb, leb, lit<}
 use Rattle.target.specs.Pick.{pick}
-use Rattle.target.specs.Address.{lunExists, blockExists, rowExists}
-use Rattle.target.specs.Commands.{takesRow}
-use Rattle.target.specs.Place.{works, failed}
-use Rattle.target.specs.Sizes.{inLimits}
+use Rattle.target.specs.Address.{rowExists}
+use Rattle.target.specs.Commands.{takesColumn, takesRow, waitsSecond}
+use Rattle.target.specs.Words.{hasFeature}
+use Rattle.target.specs.Luns.{works, failed}
+use Rattle.target.specs.Sizes.{pageSize, inLimits}
 use Rattle.target.specs.declared.Column.{Column}
 use Rattle.target.specs.declared.Row.{Row}
 use Rattle.target.specs.declared.Lun.{Lun}
@@ -18,7 +19,13 @@ use Rattle.target.specs.declared.Event.{Event}
 use Rattle.target.specs.declared.Geometry.{Geometry}
 use Rattle.target.specs.declared.Target.{Target}
 use Rattle.target.specs.declared.First.{First}
-use Rattle.target.specs.declared.First.the-variants.{Read, Jump, Fetch, Erase, Status, Look, Program, Identify, Parameters, GetFeature, SetFeature}
+use Rattle.target.specs.declared.Words.{Words}
+use Rattle.target.specs.declared.ColumnCycles.{ColumnCycles}
+use Rattle.target.specs.declared.RowCycles.{RowCycles}
+use Rattle.target.specs.declared.Wait.{Wait}
+use Rattle.target.specs.declared.Fill.{Fill}
+use Rattle.target.specs.declared.Moved.{Moved}
+use Rattle.target.specs.declared.FeatureBytes.{FeatureBytes}
 use Rattle.target.specs.declared.Sequence.{Sequence}
 use Rattle.target.specs.declared.Sequence.the-variants.{Idle, Columns, Rows, Single, Due, Filling, Moving, Setting}
 use Rattle.target.specs.declared.Output.{Output}
@@ -30,17 +37,16 @@ use Rattle.target.specs.declared.Verdict.the-variants as verdicts
 use Rattle.target.proofs.Both.{both, both3}
 use Rattle.power.specs.Power.{poweredOf}
 use Rattle.rules.specs.Rules.{verdict}
-use Rattle.effects.specs.After.{targetAfter, targetRefused}
-use Rattle.step.specs.Usable.{columnHeld, dueSound, sequenceSound, outputSound, markSound, usable}
-use Rattle.step.specs.Step.{Buffers, acceptedBy, accepted, byVerdict, steady, stepOf}
+use Rattle.effects.specs.Effects.{targetAfter, targetRefused}
+use Rattle.step.specs.Usable.{columnHeld, rowHeld, wordsSound, sequenceSound, outputSound, markSound, usable}
+use Rattle.step.specs.Step.{State, Buffers, acceptedBy, accepted, byVerdict, steady, stepOf}
 use Rattle.step.proofs.Sound.{Sound, sound, passes}
 use Rattle.thm_kept.proofs.Choice.{and-true}
 use Rattle.thm_kept.proofs.Kept.{all-sound}
-use Rattle.thm_demands.specs.Runs.{State, stepAt, left, after, poweredUp}
-use Rattle.thm_demands.proofs.Promised.{never-unusable}
-use Rattle.thm_tight.specs.Tight.{Reached, Stands, Shows, SequenceGiven, OutputGiven, ByItself}
+use Rattle.thm_demands.specs.Runs.{stepAt, left, after, poweredUp}
+use Rattle.thm_demands.proofs.Promised.{powered-fit, run-fit}
+use Rattle.thm_tight.specs.Tight.{Reached, Stands, Shows, Leaves, SequenceGiven, OutputGiven, ByItself}
 use Rattle.thm_tight.proofs.Marks.{one-mark}
-use Rattle.thm_tight.proofs.Ways.{usable-told}
 
 -- No event changes the geometry.
 
@@ -72,8 +78,8 @@ module _ {g : Geometry} {P : Target → Type 0} (w : Reached g P) where
 
   run-sound : Sound (run .target)
   run-sound =
-      let e : Event = record { kind = 0; value = 0 } in
-      let fit = usable-told (run .target) e (w .page) (run .buffers) (w .flags) (never-unusable (w .page) (w .device) (w .array) (w .registers) (w .counts) (w .flags) (w .on) (w .events) e run refl) in
+      let on = powered-fit (w .page) (w .device) (w .array) (w .registers) (w .counts) (w .flags) (w .on) in
+      let fit = run-fit (w .page) (w .device) (w .array) (w .registers) (w .counts) (w .flags) (w .on) (w .events) (poweredUp (w .page) (w .device) (w .array) (w .registers) (w .counts)) on in
       sound (run .target) (passes (run .target) (w .page) (run .buffers .array) (run .buffers .registers) (run .buffers .counts) (w .flags) fit .record-sound)
 
   run-sized : run .target .geometry ≡ g
@@ -94,18 +100,10 @@ output-held {g} {o} w = ap (λ (x : Geometry). outputSound x o) (sym (run-sized 
 mix : (a b c d : Bool) → (a && b) ≡ true → (c && d) ≡ true → (a && d) ≡ true
 mix a b c d h k = and-true a d (both a b h .0) (both c d k .1)
 
-due-mix : (g : Geometry) (f : First) (c d : Column) (r q : Row) → dueSound g f c q ≡ true → dueSound g f d r ≡ true → dueSound g f c r ≡ true
-due-mix g Read c d r q h k = mix (ltb (c .0) (g .page)) (rowExists g q) (ltb (d .0) (g .page)) (rowExists g r) h k
-due-mix g Jump c d r q h k = mix (ltb (c .0) (g .page)) (eqb (q .0) 0) (ltb (d .0) (g .page)) (eqb (r .0) 0) h k
-due-mix g Fetch c d r q h k = mix (ltb (c .0) (g .page)) (lunExists g q) (ltb (d .0) (g .page)) (lunExists g r) h k
-due-mix g Erase c d r q h k = mix (eqb (c .0) 0) (blockExists g q) (eqb (d .0) 0) (blockExists g r) h k
-due-mix g Status c d r q h k = h
-due-mix g Look c d r q h k = h
-due-mix g Program c d r q h k = h
-due-mix g Identify c d r q h k = h
-due-mix g Parameters c d r q h k = h
-due-mix g GetFeature c d r q h k = h
-due-mix g SetFeature c d r q h k = h
+-- the first test of one run's value and the second of another's
+mixed : {A B : Type 0} (p : A → Bool) (q : B → Bool) {a : A} {b : B} (x : A) (y : B) (z : A) (u : B) → x ≡ a → u ≡ b → (p x && q y) ≡ true → (p z && q u) ≡ true → (p a && q b) ≡ true
+mixed p q {a} {b} x y z u e d h k =
+    and-true (p a) (q b) (subst (λ i. p i ≡ true) e (both (p x) (q y) h .0)) (subst (λ i. q i ≡ true) d (both (p z) (q u) k .1))
 
 mark-mix : (there a b c d : Bool) → (there || not a && not c) ≡ true → (there || not d && not b) ≡ true → (there || not a && not b) ≡ true
 mark-mix true a b c d h k = refl
@@ -113,25 +111,48 @@ mark-mix false a b c d h k = mix (not a) (not c) (not d) (not b) h k
 
 sequence-sound : (g : Geometry) (s : Sequence) → SequenceGiven g s → sequenceSound g s ≡ true
 sequence-sound g Idle w = refl
-sequence-sound g (Columns f got low) w = sequence-held (w .0 .1)
-sequence-sound g (Rows f c got low mid) w =
-    let n = w .0 .0 in
-    let p = both3 (takesRow f) (ltb n 3) (columnHeld g f c) (sequence-held (w .0 .3)) in
-    let q = both3 (takesRow f) (ltb got 3) (columnHeld g f (w .1 .0)) (sequence-held (w .1 .3)) in
-    and-true (takesRow f && ltb got 3) (columnHeld g f c) (and-true (takesRow f) (ltb got 3) (q .0) (q .1)) (p .2)
+sequence-sound g (Columns k) w = subst (λ (x : First × ℕ). (takesColumn (x .0) && ltb (x .1) 2) ≡ true) (w .0 .same) (sequence-held (w .0 .stands))
+sequence-sound g (Rows k) w =
+    let f = k .first in
+    let i = w .0 .other in
+    let j = w .1 .other in
+    let p = both3 (takesRow (i .first)) (ltb (i .got) 3) (columnHeld g (i .first) (i .column)) (sequence-held (w .0 .stands)) in
+    let q = both3 (takesRow (j .first)) (ltb (j .got) 3) (columnHeld g (j .first) (j .column)) (sequence-held (w .1 .stands)) in
+    let counted = and-true (takesRow (j .first)) (ltb (j .got) 3) (q .0) (q .1) in
+    and-true (takesRow f && ltb (k .got) 3) (columnHeld g f (k .column))
+    (subst (λ (x : First × ℕ). (takesRow (x .0) && ltb (x .1) 3) ≡ true) (w .1 .same) counted)
+    (subst (λ (x : First × Column). columnHeld g (x .0) (x .1) ≡ true) (w .0 .same) (p .2))
 sequence-sound g (Single f) w = sequence-held w
-sequence-sound g (Due f c r) w = due-mix g f c (w .1 .0) r (w .0 .0) (sequence-held (w .0 .1)) (sequence-held (w .1 .1))
-sequence-sound g (Filling r at) w =
-    mix (leb (at .0) (g .page)) (rowExists g (w .1 .0)) (leb (w .0 .0 .0) (g .page)) (rowExists g r) (sequence-held (w .1 .1)) (sequence-held (w .0 .1))
-sequence-sound g (Moving r got low) w =
-    mix (ltb got 2) (rowExists g (w .1 .0)) (ltb (w .0 .0) 2) (rowExists g r) (sequence-held (w .1 .2)) (sequence-held (w .0 .2))
-sequence-sound g (Setting got value) w =
-    mix (ltb got 4) (eqb (w .0 .0) 0 || eqb (w .0 .0) 0x40) (ltb (w .1 .0) 4) (eqb value 0 || eqb value 0x40) (sequence-held (w .0 .1)) (sequence-held (w .1 .1))
+sequence-sound g (Due k) w =
+    let f = k .first in
+    let i = w .0 .other in
+    let j = w .1 .other in
+    let p = both3 (waitsSecond (i .first)) (columnHeld g (i .first) (i .column)) (rowHeld g (i .first) (i .row)) (sequence-held (w .0 .stands)) in
+    let q = both3 (waitsSecond (j .first)) (columnHeld g (j .first) (j .column)) (rowHeld g (j .first) (j .row)) (sequence-held (w .1 .stands)) in
+    let waiting = and-true (waitsSecond (i .first)) (columnHeld g (i .first) (i .column)) (p .0) (p .1) in
+    and-true (waitsSecond f && columnHeld g f (k .column)) (rowHeld g f (k .row))
+    (subst (λ (x : First × Column). (waitsSecond (x .0) && columnHeld g (x .0) (x .1)) ≡ true) (w .0 .same) waiting)
+    (subst (λ (x : First × Row). rowHeld g (x .0) (x .1) ≡ true) (w .1 .same) (q .2))
+sequence-sound g (Filling k) w =
+    let i = w .0 .other in
+    let j = w .1 .other in
+    mixed (λ (x : Column). leb (x .0) (pageSize g)) (λ (x : Row). rowExists g x) (j .at) (j .row) (i .at) (i .row) (w .1 .same) (w .0 .same)
+    (sequence-held (w .1 .stands)) (sequence-held (w .0 .stands))
+sequence-sound g (Moving k) w =
+    let i = w .0 .other in
+    let j = w .1 .other in
+    mixed (λ (x : ℕ). ltb x 2) (λ (x : Row). rowExists g x) (j .got) (j .row) (i .got) (i .row) (w .1 .same) (w .0 .same)
+    (sequence-held (w .1 .stands)) (sequence-held (w .0 .stands))
+sequence-sound g (Setting k) w =
+    let i = w .0 .other in
+    let j = w .1 .other in
+    mixed (λ (x : ℕ). ltb x 4) (λ (x : ℕ). eqb x 0 || eqb x 0x40) (i .got) (i .value) (j .got) (j .value) (w .0 .same) (w .1 .same)
+    (sequence-held (w .0 .stands)) (sequence-held (w .1 .stands))
 
 output-sound : (g : Geometry) (o : Output) → OutputGiven g o → outputSound g o ≡ true
 output-sound g output.Nothing w = refl
 output-sound g (output.Register l c) w =
-    mix (ltb l (g .luns)) (leb (w .0 .0 .0) (g .page)) (ltb (w .1 .0) (g .luns)) (leb (c .0) (g .page)) (output-held (w .0 .1)) (output-held (w .1 .1))
+    mix (ltb l (g .luns)) (leb (w .0 .0 .0) (pageSize g)) (ltb (w .1 .0) (g .luns)) (leb (c .0) (pageSize g)) (output-held (w .0 .1)) (output-held (w .1 .1))
 output-sound g (output.Parameters at) w = output-held w
 output-sound g (output.Status l) w = output-held w
 output-sound g (output.Ids at) w = output-held w
@@ -144,12 +165,19 @@ mark-sound g luns l h w f =
     (subst (λ (x : Bool). (ltb l (g .luns) || not x && not (failed (run w .target .luns) l)) ≡ true) (w .holds) (run-mark w l h))
     (subst (λ (x : Bool). (ltb l (g .luns) || not (works (run f .target .luns) l) && not x) ≡ true) (f .holds) (run-mark f l h))
 
+-- the optional word may be any
+words-sound : (g : Geometry) (w : Words) → Reached g (λ u. u .words .features ≡ w .features) → wordsSound g w ≡ true
+words-sound g w given =
+    subst (λ (n : ℕ). wordsSound g (record { features = n; optional = w .optional }) ≡ true) (given .holds)
+    (subst (λ (x : Geometry). wordsSound x (run given .target .words) ≡ true) (run-sized given) (run-sound given .words))
+
 pub by-itself : ByItself
 by-itself t on w =
     let g = t .geometry in
     let mark : (l : ℕ) → l < 4 → markSound g (t .luns) l ≡ true = λ l h. mark-sound g (t .luns) l h (w .working l h) (w .fail l h) in
     all-sound t on
     (subst (λ (x : Geometry). inLimits x ≡ true) (run-sized (w .geometry)) (run-sound (w .geometry) .limited))
+    (words-sound g (t .words) (w .features))
     (subst (λ (n : ℕ). n < g .luns) (w .selected .holds) (subst (λ (x : Geometry). run (w .selected) .target .selected < x .luns) (run-sized (w .selected)) (run-sound (w .selected) .selected)))
     (and-true (markSound g (t .luns) 0 && markSound g (t .luns) 1 && markSound g (t .luns) 2) (markSound g (t .luns) 3)
     (and-true (markSound g (t .luns) 0 && markSound g (t .luns) 1) (markSound g (t .luns) 2)

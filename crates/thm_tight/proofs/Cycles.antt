@@ -1,43 +1,53 @@
 -- The cycles that a part with every option takes, as ways between targets whose LUNs are all ready.
 -- Assumes nothing.
 use mathlib.Core.Path.{_≡_, refl, ap, _∙_}
-use mathlib.Core.Bool.{Bool, true, false}
+use mathlib.Core.Bool.{Bool, true, false, _&&_, _||_, not, false≢true}
 use mathlib.Core.List.{List}
 use Prim.Native.Nat.{ℕ, zero, suc, _≤_}
 use native.Mathlib.Omega.{arith}
-use lib.ListN.{getD}
+use lib.Dec.{eqb}
+use borrow.Author.Tests.{leb-true, not-true}
 use Rattle.target.specs.Pick.{orElse}
-use Rattle.target.specs.Commands.{classOf, offered, rowOf}
+use Rattle.target.specs.Address.{lunOf}
+use Rattle.target.specs.Words.{bitOf}
+use Rattle.target.specs.Commands.{classOf, offered, rowOf, byteOf, needsReady, waitsFor, firstOf, secondOf, secondRow, isKnown, isFirst}
+use Rattle.target.specs.Views.{completed, taking}
+use Rattle.target.specs.Luns.{lunReady, allReady, lunAt, works}
 use Rattle.target.specs.Events.{badRecord}
-use Rattle.target.specs.Place.{takesAddress, takesData, hasOutput, ready, works}
-use Rattle.target.specs.declared.Column.{Column}
-use Rattle.target.specs.declared.Row.{Row}
+use Rattle.target.specs.Place.{takesAddress, takesData, hasOutput}
 use Rattle.target.specs.declared.Geometry.{Geometry}
-use Rattle.target.specs.declared.Options.{Options}
 use Rattle.target.specs.declared.Lun.{Lun}
 use Rattle.target.specs.declared.Target.{Target}
+use Rattle.target.specs.declared.Findings.{Findings}
 use Rattle.target.specs.declared.First.{First}
-use Rattle.target.specs.declared.First.the-variants.{Read, Jump, Fetch, Erase, Status, Look, Program, Identify, Parameters, GetFeature, SetFeature}
+use Rattle.target.specs.declared.First.the-variants.{ChangeColumnEnhanced}
+use Rattle.target.specs.declared.Wait.{Wait}
+use Rattle.target.specs.declared.Fill.{Fill}
 use Rattle.target.specs.declared.Sequence.{Sequence}
 use Rattle.target.specs.declared.Sequence.the-variants.{Idle, Due, Filling}
 use Rattle.target.specs.declared.Output.{Output}
 use Rattle.target.specs.declared.Output.the-variants as output
 use Rattle.target.specs.declared.Verdict.the-variants.{Accepted}
-use Rattle.rules.specs.Rules.{unknown, beforeReset, fits, misplaced, beyond, outOfRange, namesWorking, outputWorks, lunWorks, othersBusy, lineLow, dataEnded, outputEnded, pastEnd, unoffered, notOffered, notWorking, lineHeld, verdict}
+use Rattle.target.specs.declared.commands.Waits.{Waits}
+use Rattle.target.specs.declared.commands.Waits.the-variants as waits
+use Rattle.target.specs.declared.commands.FirstFound.{FirstFound}
+use Rattle.target.specs.declared.commands.FirstFound.the-variants as first
+use Rattle.target.specs.declared.views.Given.{Given}
+use Rattle.target.specs.declared.views.Given.the-variants as given
+use Rattle.rules.specs.Rules.{unknown, beforeReset, fits, misplaced, beyond, outOfRange, namesWorking, outputWorks, lunWorks, workFor, othersWorkFor, othersBusy, isGuarded, lineLow, dataEnded, outputEnded, pastEnd, unoffered, notOffered}
+use Rattle.rules.specs.Rules as rules
 use Rattle.rules.proofs.ByKind.{event, command-verdict, address-verdict, in-verdict, out-verdict}
-use Rattle.effects.specs.After.{started, addressed, filled, sequenceAfter, addressedOutput, advanced, outputAfter, allReady, commandOutput, lunsAfter, rowSelects, selectedAfter, clearSet, clearAfter, highAfter, targetAfter}
-use Rattle.step.specs.Buffers.{spoiltBy}
+use Rattle.effects.specs.Effects.{started, addressed, filled, sequenceAfter, firstOutput, addressedOutput, advanced, outputAfter, lunsAfter, rowSelects, selectedAfter, clearSet, clearAfter, highAfter, targetAfter}
+use Rattle.step.specs.Buffers.{findings}
+use Rattle.thm_tight.proofs.Commands.{every, fresh, named}
 use Rattle.thm_tight.proofs.Part.{Part, Fine, flagsOf}
 use Rattle.thm_tight.proofs.Ways.{Way, at-power, onward}
-
-abbrev pub every : Options
-every = record { look = true; fetch = true; features = true; clear = true }
 
 -- a part with every option
 abbrev pub full : Geometry → ℕ → Part
 full g flag = record {
   geometry = g;
-  options = every;
+  words = every;
   maker = 0;
   device = 0;
   flag = flag;
@@ -48,7 +58,7 @@ abbrev pub stand : Geometry → ℕ → Sequence → Output → Target
 stand g selected s o = record {
   powered = true;
   geometry = g;
-  options = every;
+  words = every;
   ids = record { maker = 0; device = 0 };
   high = true;
   clear = false;
@@ -58,7 +68,13 @@ stand g selected s o = record {
   decoder = record { sequence = s; output = o };
 }
 
-pub ready-at : (l : ℕ) → getD allReady l ready ≡ ready
+pub and-no : (b : Bool) → (b && false) ≡ false
+and-no true = refl
+and-no false = refl
+
+-- No LUN works.
+
+pub ready-at : (l : ℕ) → lunAt allReady l ≡ lunReady
 ready-at zero = refl
 ready-at (suc zero) = refl
 ready-at (suc (suc zero)) = refl
@@ -68,99 +84,118 @@ ready-at (suc (suc (suc (suc l)))) = refl
 pub works-not : (l : ℕ) → works allReady l ≡ false
 works-not l = ap (λ (x : Lun). x .working) (ready-at l)
 
--- the command byte of a first command
-abbrev pub byteOf : First → ℕ
-byteOf f = rowOf f .byte
+asked-not : (b : Bool) (l : ℕ) → (b && works allReady l) ≡ false
+asked-not b l = rw (works-not l) (and-no b)
 
-byte-small : (f : First) → byteOf f ≤ 255
-byte-small Read = omega arith
-byte-small Jump = omega arith
-byte-small Fetch = omega arith
-byte-small Erase = omega arith
-byte-small Status = omega arith
-byte-small Look = omega arith
-byte-small Program = omega arith
-byte-small Identify = omega arith
-byte-small Parameters = omega arith
-byte-small GetFeature = omega arith
-byte-small SetFeature = omega arith
+names-not : (g : Geometry) (selected : ℕ) (k : Given) → namesWorking g allReady selected k ≡ false
+names-not g selected given.Nothing = refl
+names-not g selected (given.Column k) = asked-not (k .asks) selected
+names-not g selected (given.Row k) = asked-not (needsReady (k .first)) (lunOf g (k .row))
+names-not g selected (given.Single k) = refl
 
--- each is accepted after FFh
-opens : (g : Geometry) (f : First) → verdict (stand g 0 Idle output.Nothing) (event 0 (byteOf f)) ≡ Accepted
-unfolding verdict orElse badRecord beforeReset unknown misplaced othersBusy outOfRange notOffered lunWorks lineLow pastEnd notWorking lineHeld classOf offered fits
-opens g Read = refl
-opens g Jump = refl
-opens g Fetch = refl
-opens g Erase = refl
-opens g Status = refl
-opens g Look = refl
-opens g Program = refl
-opens g Identify = refl
-opens g Parameters = refl
-opens g GetFeature = refl
-opens g SetFeature = refl
+work-not : (w : Waits) → workFor allReady 0 w ≡ false
+work-not waits.Nobody = refl
+work-not waits.Others = refl
+work-not waits.All = refl
 
--- and opens its sequence
-opened-by : (g : Geometry) (f : First) (spoilt : Bool) → targetAfter (stand g 0 Idle output.Nothing) (event 0 (byteOf f)) spoilt ≡ stand g 0 (started f) (commandOutput g 0 Idle (byteOf f))
-unfolding targetAfter highAfter clearAfter selectedAfter lunsAfter sequenceAfter outputAfter
-opened-by g Read spoilt = refl
-opened-by g Jump spoilt = refl
-opened-by g Fetch spoilt = refl
-opened-by g Erase spoilt = refl
-opened-by g Status spoilt = refl
-opened-by g Look spoilt = refl
-opened-by g Program spoilt = refl
-opened-by g Identify spoilt = refl
-opened-by g Parameters spoilt = refl
-opened-by g GetFeature spoilt = refl
-opened-by g SetFeature spoilt = refl
+others-not : (found : FirstFound) → othersWorkFor allReady 0 found ≡ false
+others-not first.Nothing = refl
+others-not (first.Found f) = work-not (waitsFor f)
+
+-- A first command, after FFh.
+
+module _ (g : Geometry) (f : First) where
+  abbrev opening : Target
+  opening = stand g 0 Idle output.Nothing
+
+  is-known : unknown every (event 0 (byteOf f)) ≡ false
+  unfolding unknown
+  is-known = let p = fresh f in rw (p .0, p .1)
+
+  is-fit : misplaced (opening .decoder) (event 0 (byteOf f)) ≡ false
+  unfolding misplaced fits
+  is-fit = let p = fresh f in rw (not-true (eqb (byteOf f) 0xff) (p .3), p .2)
+
+  is-free : othersBusy allReady 0 (event 0 (byteOf f)) ≡ false
+  unfolding othersBusy
+  is-free = others-not (firstOf (byteOf f))
+
+  is-seen : beforeReset true (event 0 (byteOf f)) ≡ false
+  unfolding beforeReset
+  is-seen = and-no (not (eqb (byteOf f) 0xff))
+
+  is-high : lineLow true (event 0 (byteOf f)) ≡ false
+  unfolding lineLow
+  is-high = and-no (isGuarded (secondOf (byteOf f)))
+
+  opens : rules.verdict opening (event 0 (byteOf f)) ≡ Accepted
+  unfolding orElse
+  opens = command-verdict opening (byteOf f) ∙ rw (is-seen, is-known, is-fit, is-free, is-high)
+
+  opened-by : (found : Findings) → targetAfter opening (event 0 (byteOf f)) found ≡ stand g 0 (started f) (firstOutput 0 (first.Found f))
+  unfolding targetAfter highAfter clearAfter selectedAfter lunsAfter sequenceAfter outputAfter
+  opened-by found = let p = fresh f in rw (not-true (eqb (byteOf f) 0xff) (p .3), named f)
 
 -- the second commands that the ways go by
 pub data Second : Sequence → ℕ → Type 0 where
-  fetching : {c : Column} {r : Row} → Second (Due Fetch c r) 0xe0
-  moving : {r : Row} {at : Column} → Second (Filling r at) 0x85
-  programming : {r : Row} {at : Column} → Second (Filling r at) 0x10
+  showing : {k : Wait} → k .first ≡ ChangeColumnEnhanced → Second (Due k) 0xe0
+  moving : {k : Fill} → Second (Filling k) 0x85
+  programming : {k : Fill} → Second (Filling k) 0x10
 
 second-small : {s : Sequence} {v : ℕ} → Second s v → v ≤ 255
-second-small fetching = omega arith
+second-small (showing e) = omega arith
 second-small moving = omega arith
 second-small programming = omega arith
 
-second-accepted : (g : Geometry) (selected : ℕ) (o : Output) {s : Sequence} {v : ℕ} → Second s v → verdict (stand g selected s o) (event 0 v) ≡ Accepted
-unfolding verdict orElse badRecord beforeReset unknown misplaced othersBusy outOfRange notOffered lunWorks lineLow pastEnd notWorking lineHeld classOf offered fits
-second-accepted g selected o fetching = refl
-second-accepted g selected o moving = refl
-second-accepted g selected o programming = refl
+-- each is no first command, so that no LUN is waited for
+second-known : {s : Sequence} {v : ℕ} → Second s v → (unknown every (event 0 v) ≡ false) × ((selected : ℕ) → othersBusy allReady selected (event 0 v) ≡ false)
+unfolding unknown othersBusy classOf offered rowOf firstOf secondRow
+second-known (showing e) = (refl, λ _. refl)
+second-known moving = (refl, λ _. refl)
+second-known programming = (refl, λ _. refl)
 
-reset-accepted : (t : Target) → verdict t (event 0 0xff) ≡ Accepted
-unfolding orElse beforeReset unknown classOf offered misplaced fits othersBusy lineLow
+second-fits : {s : Sequence} {v : ℕ} (o : Output) → Second s v → misplaced (record { sequence = s; output = o }) (event 0 v) ≡ false
+unfolding misplaced fits rowOf secondOf secondRow
+second-fits o (showing e) = rw (e)
+second-fits o moving = refl
+second-fits o programming = refl
+
+second-accepted : (g : Geometry) (selected : ℕ) (o : Output) {s : Sequence} {v : ℕ} → Second s v → rules.verdict (stand g selected s o) (event 0 v) ≡ Accepted
+unfolding orElse beforeReset lineLow
+second-accepted g selected o {s} {v} which =
+    let p = second-known which in
+    command-verdict (stand g selected s o) v
+    ∙ rw (and-no (not (eqb v 0xff)), p .0, second-fits o which, p .1 selected, and-no (isGuarded (secondOf v)))
+
+reset-accepted : (t : Target) → rules.verdict t (event 0 0xff) ≡ Accepted
+unfolding orElse beforeReset unknown classOf offered misplaced fits othersBusy lineLow rowOf firstOf secondOf secondRow
 reset-accepted t = command-verdict t 0xff
 
 -- the rules that each of the other cycles can meet
 module _ (g : Geometry) (selected : ℕ) (s : Sequence) (o : Output) where
-  address-accepted : (v : ℕ) → takesAddress s ≡ true → beyond g s v ≡ false → namesWorking g allReady selected s v ≡ false → verdict (stand g selected s o) (event 1 v) ≡ Accepted
+  address-accepted : (v : ℕ) → takesAddress s ≡ true → beyond g (completed s v) ≡ false → rules.verdict (stand g selected s o) (event 1 v) ≡ Accepted
   unfolding orElse beforeReset misplaced fits outOfRange lunWorks
-  address-accepted v h near idle = address-verdict (stand g selected s o) v ∙ rw (h, near, idle)
+  address-accepted v h near = address-verdict (stand g selected s o) v ∙ rw (h, near, names-not g selected (completed s v))
 
-  address-leaves : (v : ℕ) (spoilt : Bool) → targetAfter (stand g selected s o) (event 1 v) spoilt ≡ stand g (rowSelects g selected s v) (addressed s v) (addressedOutput g s o v)
+  address-leaves : (v : ℕ) (found : Findings) → targetAfter (stand g selected s o) (event 1 v) found ≡ stand g (rowSelects g selected (completed s v)) (addressed s v) (addressedOutput g (completed s v) o)
   unfolding targetAfter highAfter clearAfter selectedAfter lunsAfter sequenceAfter outputAfter
-  address-leaves v spoilt = refl
+  address-leaves v found = refl
 
-  out-accepted : hasOutput o ≡ true → outputWorks allReady o ≡ false → outputEnded g o ≡ false → verdict (stand g selected s o) (event 3 0) ≡ Accepted
+  out-accepted : hasOutput o ≡ true → outputWorks allReady o ≡ false → outputEnded g o ≡ false → rules.verdict (stand g selected s o) (event 3 0) ≡ Accepted
   unfolding orElse badRecord beforeReset misplaced fits lunWorks pastEnd
   out-accepted h idle more = out-verdict (stand g selected s o) 0 ∙ rw (h, idle, more)
 
-  out-leaves : (spoilt : Bool) → targetAfter (stand g selected s o) (event 3 0) spoilt ≡ stand g selected s (advanced o)
+  out-leaves : (found : Findings) → targetAfter (stand g selected s o) (event 3 0) found ≡ stand g selected s (advanced o)
   unfolding targetAfter highAfter clearAfter selectedAfter lunsAfter sequenceAfter outputAfter
-  out-leaves spoilt = refl
+  out-leaves found = refl
 
-  pub in-accepted : (v : ℕ) → takesData s ≡ true → unoffered every s v ≡ false → dataEnded g s ≡ false → verdict (stand g selected s o) (event 2 v) ≡ Accepted
+  pub in-accepted : (v : ℕ) → takesData s ≡ true → unoffered every (taking s) v ≡ false → dataEnded g (taking s) ≡ false → rules.verdict (stand g selected s o) (event 2 v) ≡ Accepted
   unfolding orElse beforeReset misplaced fits notOffered pastEnd
-  in-accepted v h fine more = in-verdict (stand g selected s o) v ∙ rw (h, fine, more)
+  in-accepted v h offer more = in-verdict (stand g selected s o) v ∙ rw (h, offer, more)
 
-  in-leaves : (v : ℕ) (spoilt : Bool) → clearSet false s ≡ false → targetAfter (stand g selected s o) (event 2 v) spoilt ≡ stand g selected (filled s v) o
+  in-leaves : (v : ℕ) (found : Findings) → clearSet false (taking s) ≡ false → targetAfter (stand g selected s o) (event 2 v) found ≡ stand g selected (filled s (taking s) v) o
   unfolding targetAfter highAfter clearAfter selectedAfter lunsAfter sequenceAfter outputAfter
-  in-leaves v spoilt h = rw (h)
+  in-leaves v found h = rw (h)
 
 module _ (g : Geometry) (flag : ℕ) (fine : Fine (full g flag)) where
   -- after FFh
@@ -168,21 +203,21 @@ module _ (g : Geometry) (flag : ℕ) (fine : Fine (full g flag)) where
   unfolding targetAfter highAfter clearAfter selectedAfter lunsAfter sequenceAfter outputAfter
   still = onward fine (at-power (full g flag)) (event 0 0xff) (omega arith) (omega arith) (reset-accepted _) _ (λ _. refl)
 
-  pub command : (f : First) → Way (full g flag) (stand g 0 (started f) (commandOutput g 0 Idle (byteOf f)))
-  command f = onward fine still (event 0 (byteOf f)) (omega arith) (byte-small f) (opens g f) _ (λ _. opened-by g f _)
+  pub command : (f : First) → Way (full g flag) (stand g 0 (started f) (firstOutput 0 (first.Found f)))
+  command f = onward fine still (event 0 (byteOf f)) (omega arith) (leb-true _ _ (fresh f .4)) (opens g f) _ (λ _. opened-by g f _)
 
-  pub second : (selected : ℕ) (s : Sequence) (o : Output) (v : ℕ) → Second s v → (y : Target) → ((counts : List ℕ) → targetAfter (stand g selected s o) (event 0 v) (spoiltBy g s (event 0 v) counts (flagsOf (full g flag))) ≡ y)
+  pub second : (selected : ℕ) (s : Sequence) (o : Output) (v : ℕ) → Second s v → (y : Target) → ((counts : List ℕ) → targetAfter (stand g selected s o) (event 0 v) (findings g s (event 0 v) counts (flagsOf (full g flag))) ≡ y)
       → Way (full g flag) (stand g selected s o) → Way (full g flag) y
   second selected s o v which y leaves w = onward fine w (event 0 v) (omega arith) (second-small which) (second-accepted g selected o which) y leaves
 
-  pub address : (selected : ℕ) (s : Sequence) (o : Output) (v : ℕ) → v ≤ 255 → takesAddress s ≡ true → beyond g s v ≡ false → namesWorking g allReady selected s v ≡ false
-      → Way (full g flag) (stand g selected s o) → Way (full g flag) (stand g (rowSelects g selected s v) (addressed s v) (addressedOutput g s o v))
-  address selected s o v small h near idle w = onward fine w (event 1 v) (omega arith) small (address-accepted g selected s o v h near idle) _ (λ _. address-leaves g selected s o v _)
+  pub address : (selected : ℕ) (s : Sequence) (o : Output) (v : ℕ) → v ≤ 255 → takesAddress s ≡ true → beyond g (completed s v) ≡ false
+      → Way (full g flag) (stand g selected s o) → Way (full g flag) (stand g (rowSelects g selected (completed s v)) (addressed s v) (addressedOutput g (completed s v) o))
+  address selected s o v small h near w = onward fine w (event 1 v) (omega arith) small (address-accepted g selected s o v h near) _ (λ _. address-leaves g selected s o v _)
 
   pub out : (selected : ℕ) (s : Sequence) (o : Output) → hasOutput o ≡ true → outputWorks allReady o ≡ false → outputEnded g o ≡ false
       → Way (full g flag) (stand g selected s o) → Way (full g flag) (stand g selected s (advanced o))
   out selected s o h idle more w = onward fine w (event 3 0) (omega arith) (omega arith) (out-accepted g selected s o h idle more) _ (λ _. out-leaves g selected s o _)
 
-  pub data-in : (selected : ℕ) (s : Sequence) (o : Output) (v : ℕ) → v ≤ 255 → takesData s ≡ true → unoffered every s v ≡ false → dataEnded g s ≡ false → clearSet false s ≡ false
-      → Way (full g flag) (stand g selected s o) → Way (full g flag) (stand g selected (filled s v) o)
+  pub data-in : (selected : ℕ) (s : Sequence) (o : Output) (v : ℕ) → v ≤ 255 → takesData s ≡ true → unoffered every (taking s) v ≡ false → dataEnded g (taking s) ≡ false → clearSet false (taking s) ≡ false
+      → Way (full g flag) (stand g selected s o) → Way (full g flag) (stand g selected (filled s (taking s) v) o)
   data-in selected s o v small h offer more same w = onward fine w (event 2 v) (omega arith) small (in-accepted g selected s o v h offer more) _ (λ _. in-leaves g selected s o v _ same)

@@ -1,8 +1,9 @@
 pub mod Crc
 pub mod Part
+pub mod Addresses
+pub mod Commands
 pub mod Ways
 pub mod Cycles
-pub mod Addresses
 pub mod Sequences
 pub mod Outputs
 pub mod Marks

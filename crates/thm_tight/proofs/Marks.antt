@@ -5,23 +5,24 @@ use mathlib.Core.Bool.{Bool, true, false, _&&_, _||_, not, false≢true}
 use mathlib.Core.List.{List}
 use Prim.Native.Nat.{ℕ, zero, suc, _<_}
 use native.Mathlib.Omega.{arith}
-use lib.ListN.{getD}
 use lib.Seq.{getD-set-same}
 use lib.Dec.{ltb}
 use borrow.Author.Tests.{ltb-true}
 use Rattle.target.specs.Address.{lunOf, rowExists}
-use Rattle.target.specs.Place.{ready, works, failed}
+use Rattle.target.specs.Commands.{secondOf, secondRow}
+use Rattle.target.specs.Luns.{lunReady, allReady, isReady, lunAt, works, failed}
 use Rattle.target.specs.declared.Lun.{Lun}
 use Rattle.target.specs.declared.Geometry.{Geometry}
 use Rattle.target.specs.declared.Target.{Target}
+use Rattle.target.specs.declared.Findings.{Findings}
 use Rattle.target.specs.declared.Sequence.the-variants.{Filling}
 use Rattle.target.specs.declared.Output.the-variants as output
 use Rattle.target.proofs.Both.{both4}
 use Rattle.target.proofs.Limits.{limits}
 use Rattle.rules.proofs.ByKind.{event}
-use Rattle.effects.specs.After.{allReady, lunsAfter, targetAfter}
+use Rattle.effects.specs.Effects.{lunsAfter, targetAfter}
 use Rattle.step.specs.Usable.{markSound, marksSound}
-use Rattle.step.specs.Buffers.{blockIndex, blockBad, spoiltBy}
+use Rattle.step.specs.Buffers.{blockIndex, blockBad, pageFull, findings}
 use Rattle.step.proofs.Places.{row-block, block-below}
 use Rattle.thm_kept.proofs.Choice.{or-true}
 use Rattle.thm_tight.specs.Tight.{Reached}
@@ -29,24 +30,24 @@ use Rattle.thm_tight.proofs.Part.{Fine, flagsOf, flag-at}
 use Rattle.thm_tight.proofs.Ways.{Way, reached}
 use Rattle.thm_tight.proofs.Cycles.{programming, second, full, stand, ready-at, still}
 use Rattle.thm_tight.proofs.Addresses.{rowAt, lun-at, row-there}
-use Rattle.thm_tight.proofs.Sequences.{filling-first}
+use Rattle.thm_tight.proofs.Sequences.{filling-at, filling-first}
 
 -- a program of the first page of a LUN, all of whose blocks are factory bad
 module _ (g : Geometry) (l : ℕ) where
   abbrev filled : Target
-  filled = stand g (lunOf g (rowAt g l)) (Filling (rowAt g l) (record { 0 = 0 })) output.Nothing
+  filled = stand g (lunOf g (rowAt g l)) (Filling (filling-at (rowAt g l) (record { 0 = 0 }))) output.Nothing
 
   abbrev failing : Target
-  failing = targetAfter filled (event 0 0x10) true
+  failing = targetAfter filled (event 0 0x10) (record { proceeds = false })
 
-  spoilt : rowExists g (rowAt g l) ≡ true → (counts : List ℕ) → spoiltBy g (filled .decoder .sequence) (event 0 0x10) counts (flagsOf (full g 1)) ≡ true
-  unfolding spoiltBy blockBad
-  spoilt there counts = rw (flag-at (full g 1) (blockIndex g (rowAt g l)) (block-below g (rowAt g l) (row-block g (rowAt g l) there)))
+  refuses : rowExists g (rowAt g l) ≡ true → (counts : List ℕ) → findings g (filled .decoder .sequence) (event 0 0x10) counts (flagsOf (full g 1)) ≡ record { proceeds = false }
+  unfolding findings blockBad secondOf secondRow
+  refuses there counts = rw (flag-at (full g 1) (blockIndex g (rowAt g l)) (block-below g (rowAt g l) (row-block g (rowAt g l) there)))
 
   -- sets both marks
-  marked : l < 4 → getD (failing .luns) l ready ≡ record { working = true; fail = true }
-  unfolding targetAfter lunsAfter
-  marked h = rw (lun-at g l) (getD-set-same allReady l (record { working = true; fail = true }) ready h)
+  marked : l < 4 → lunAt (failing .luns) l ≡ record { working = true; fail = true }
+  unfolding targetAfter lunsAfter secondOf secondRow
+  marked h = rw (lun-at g l) (getD-set-same allReady l (record { working = true; fail = true }) lunReady h)
 
 -- rule 13's test of one LUN's marks
 pub one-mark : (g : Geometry) (luns : List Lun) → marksSound g luns ≡ true → (l : ℕ) → l < 4 → markSound g luns l ≡ true
@@ -71,12 +72,12 @@ module _ (g : Geometry) (fine : Fine (full g 0)) (ruined : Fine (full g 1)) (l :
   fails k =
       let there = row-there g (limits g (fine .limited)) l k in
       second g 1 ruined (lunOf g (rowAt g l)) _ output.Nothing 0x10 programming (failing g l)
-      (λ counts. ap (targetAfter (filled g l) (event 0 0x10)) (spoilt g l there counts)) (filling-first g 1 ruined (rowAt g l) there)
+      (λ counts. ap (targetAfter (filled g l) (event 0 0x10)) (refuses g l there counts)) (filling-first g 1 ruined (rowAt g l) there)
 
   -- a mark that is off where a LUN is ready and on where it fails
-  mark-given : (mark : Lun → Bool) → mark ready ≡ false → mark (record { working = true; fail = true }) ≡ true → (b : Bool) → (b ≡ true → l < g .luns) → Reached g (λ t. mark (getD (t .luns) l ready) ≡ b)
-  mark-given mark off on true k = reached (λ (t : Target). mark (getD (t .luns) l ready) ≡ true) ruined (fails (k refl)) (ap mark (marked g l h) ∙ on)
-  mark-given mark off on false k = reached (λ (t : Target). mark (getD (t .luns) l ready) ≡ false) fine (still g 0 fine) (ap mark (ready-at l) ∙ off)
+  mark-given : (mark : Lun → Bool) → mark lunReady ≡ false → mark (record { working = true; fail = true }) ≡ true → (b : Bool) → (b ≡ true → l < g .luns) → Reached g (λ t. mark (lunAt (t .luns) l) ≡ b)
+  mark-given mark off on true k = reached (λ (t : Target). mark (lunAt (t .luns) l) ≡ true) ruined (fails (k refl)) (ap mark (marked g l h) ∙ on)
+  mark-given mark off on false k = reached (λ (t : Target). mark (lunAt (t .luns) l) ≡ false) fine (still g 0 fine) (ap mark (ready-at l) ∙ off)
 
   module _ (luns : List Lun) (k : marksSound g luns ≡ true) where
     exists : (works luns l || failed luns l) ≡ true → l < g .luns

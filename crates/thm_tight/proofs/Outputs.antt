@@ -5,35 +5,71 @@ use mathlib.Core.Bool.{Bool, true, false}
 use Prim.Native.Nat.{ℕ, zero, suc, _+_, _≤_, _<_}
 use native.Mathlib.Numerals.{add-one}
 use native.Mathlib.Omega.{arith}
-use lib.Dec.{ltb, leb}
+use lib.Dec.{eqb, ltb, leb}
 use borrow.Author.Tests.{ltb-true, leb-true, lt-ltb, lt-leb}
-use Rattle.target.specs.Address.{lunOf}
+use Rattle.target.specs.Address.{lunOf, lunExists}
+use Rattle.target.specs.Sizes.{pageSize}
+use Rattle.target.specs.Commands.{rowOf, cyclesOf, thenOf, takesColumn, takesRow, knowsAddress, secondOf, secondRow}
+use Rattle.target.specs.Luns.{allReady}
 use Rattle.target.specs.Place.{hasOutput}
 use Rattle.target.specs.declared.Column.{Column}
 use Rattle.target.specs.declared.Row.{Row}
 use Rattle.target.specs.declared.Geometry.{Geometry}
 use Rattle.target.specs.declared.Target.{Target}
+use Rattle.target.specs.declared.Findings.{Findings}
 use Rattle.target.specs.declared.First.{First}
-use Rattle.target.specs.declared.First.the-variants.{Fetch, Look, Identify, Parameters, GetFeature}
+use Rattle.target.specs.declared.First.the-variants.{ChangeColumnEnhanced, StatusEnhanced, ReadId, ParameterPage, GetFeatures}
+use Rattle.target.specs.declared.Wait.{Wait}
 use Rattle.target.specs.declared.Sequence.the-variants.{Idle, Single, Due}
 use Rattle.target.specs.declared.Output.{Output}
 use Rattle.target.specs.declared.Output.the-variants as output
+use Rattle.target.specs.declared.commands.Then.{Then}
+use Rattle.target.specs.declared.commands.Then.the-variants as then
 use Rattle.target.proofs.Both.{both}
 use Rattle.target.proofs.Limits.{Limits, limits}
-use Rattle.rules.specs.Rules.{addressFits, outputWorks, outputEnded}
+use Rattle.rules.specs.Rules.{rowFits, outputWorks, outputEnded}
 use Rattle.rules.proofs.ByKind.{event}
-use Rattle.effects.specs.After.{addressGiven, addressOutput, advanced, allReady, sequenceAfter, outputAfter, lunsAfter, selectedAfter, clearAfter, highAfter, targetAfter}
-use Rattle.step.specs.Usable.{outputSound}
+use Rattle.effects.specs.Effects.{followed, shown, advanced, sequenceAfter, outputAfter, lunsAfter, selectedAfter, clearAfter, highAfter, targetAfter}
+use Rattle.step.specs.Usable.{columnHeld, outputSound}
 use Rattle.thm_tight.specs.Tight.{Shows, OutputGiven}
 use Rattle.thm_tight.proofs.Part.{Fine}
 use Rattle.thm_tight.proofs.Ways.{Way, to-end, reached}
-use Rattle.thm_tight.proofs.Cycles.{fetching, second, full, stand, works-not, still, command, address, out}
+use Rattle.thm_tight.proofs.Cycles.{showing, second, full, stand, works-not, still, address, out}
 use Rattle.thm_tight.proofs.Addresses.{rowAt, lun-at, lun-there}
-use Rattle.thm_tight.proofs.Sequences.{row-whole}
+use Rattle.thm_tight.proofs.Sequences.{row-whole, single}
 
-fetched : (g : Geometry) (selected : ℕ) (c : Column) (r : Row) (spoilt : Bool) → targetAfter (stand g selected (Due Fetch c r) output.Nothing) (event 0 0xe0) spoilt ≡ stand g selected Idle (output.Register (lunOf g r) c)
-unfolding targetAfter highAfter clearAfter selectedAfter lunsAfter sequenceAfter outputAfter
-fetched g selected c r spoilt = refl
+-- 06h, and what it shows
+abbrev asked : Column → Row → Wait
+asked c r = record { first = ChangeColumnEnhanced; column = c; row = r }
+
+showed : (g : Geometry) (selected : ℕ) (c : Column) (r : Row) (found : Findings) → targetAfter (stand g selected (Due (asked c r)) output.Nothing) (event 0 0xe0) found ≡ stand g selected Idle (output.Register (lunOf g r) c)
+unfolding targetAfter highAfter clearAfter selectedAfter lunsAfter sequenceAfter outputAfter rowOf secondOf secondRow
+showed g selected c r found = refl
+
+-- the attributes of the commands that are named here
+asked-is : (takesRow ChangeColumnEnhanced ≡ true) × (takesColumn ChangeColumnEnhanced ≡ true) × (thenOf ChangeColumnEnhanced ≡ then.Second)
+unfolding rowOf
+asked-is = (refl, refl, refl)
+
+status-is : (takesRow StatusEnhanced ≡ true) × (takesColumn StatusEnhanced ≡ false) × (thenOf StatusEnhanced ≡ then.Status)
+unfolding rowOf
+status-is = (refl, refl, refl)
+
+lun-fits : (g : Geometry) (r : Row) → lunExists g r ≡ true → (rowFits g ChangeColumnEnhanced r ≡ true) × (rowFits g StatusEnhanced r ≡ true)
+unfolding rowOf
+lun-fits g r h = (h, h)
+
+ids-is : (eqb (cyclesOf ReadId) 1 ≡ true) × (thenOf ReadId ≡ then.Id) × (knowsAddress ReadId 0x00 ≡ true) × (knowsAddress ReadId 0x20 ≡ true)
+unfolding rowOf
+ids-is = (refl, refl, refl, refl)
+
+page-is : (eqb (cyclesOf ParameterPage) 1 ≡ true) × (thenOf ParameterPage ≡ then.ParameterPage) × (knowsAddress ParameterPage 0x00 ≡ true)
+unfolding rowOf
+page-is = (refl, refl, refl)
+
+feature-is : (eqb (cyclesOf GetFeatures) 1 ≡ true) × (thenOf GetFeatures ≡ then.FeatureOut) × (knowsAddress GetFeatures 0x01 ≡ true)
+unfolding rowOf
+feature-is = (refl, refl, refl)
 
 module _ (g : Geometry) (flag : ℕ) (fine : Fine (full g flag)) where
   m : Limits g
@@ -49,31 +85,33 @@ module _ (g : Geometry) (flag : ℕ) (fine : Fine (full g flag)) where
 
   -- A register.
 
-  register-below : (l : ℕ) → l < g .luns → (c : Column) → c .0 < g .page → Way (full g flag) (stand g l Idle (output.Register l c))
+  register-below : (l : ℕ) → l < g .luns → (c : Column) → c .0 < pageSize g → Way (full g flag) (stand g l Idle (output.Register l c))
   register-below l h c below =
       let r = rowAt g l in
-      let asked = row-whole g flag fine Fetch refl c (lt-ltb (c .0) (g .page) below) r (lun-there g m l h) in
+      let held : columnHeld g ChangeColumnEnhanced c ≡ true = rw (asked-is .1) (lt-ltb (c .0) (pageSize g) below) in
+      let due = row-whole g flag fine ChangeColumnEnhanced (asked-is .0) c held r (lun-fits g r (lun-there g m l h) .0) then.Second (asked-is .2) in
       subst (λ (n : ℕ). Way (full g flag) (stand g n Idle (output.Register n c))) (lun-at g l)
-      (second g flag fine (lunOf g r) _ output.Nothing 0xe0 fetching _ (λ _. fetched g (lunOf g r) c r _) asked)
+      (second g flag fine (lunOf g r) (Due (asked c r)) output.Nothing 0xe0 (showing refl) _ (λ _. showed g (lunOf g r) c r _) due)
 
   -- past its last byte by data out there
-  register : (l : ℕ) → l < g .luns → (c : Column) → c .0 ≤ g .page → Way (full g flag) (stand g l Idle (output.Register l c))
+  register : (l : ℕ) → l < g .luns → (c : Column) → c .0 ≤ pageSize g → Way (full g flag) (stand g l Idle (output.Register l c))
   register l h c most =
       let least = m .page-min in
-      to-end (λ (x : Column). stand g l Idle (output.Register l x)) (g .page) (omega arith) (register-below l h)
-      (λ x below w. out g flag fine l Idle (output.Register l x) refl (works-not l) (lt-leb (g .page) (x .0) below) w)
+      to-end (λ (x : Column). stand g l Idle (output.Register l x)) (pageSize g) (omega arith) (register-below l h)
+      (λ x below w. out g flag fine l Idle (output.Register l x) refl (works-not l) (lt-leb (pageSize g) (x .0) below) w)
       c most
 
   -- 78h: the status of the LUN, which it selects
   pub status : (l : ℕ) → l < g .luns → Way (full g flag) (stand g l Idle (output.Status l))
   status l h =
       subst (λ (n : ℕ). Way (full g flag) (stand g n Idle (output.Status n))) (lun-at g l)
-      (row-whole g flag fine Look refl (record { 0 = 0 }) refl (rowAt g l) (lun-there g m l h))
+      (row-whole g flag fine StatusEnhanced (status-is .0) (record { 0 = 0 }) (rw (status-is .1)) (rowAt g l) (lun-fits g (rowAt g l) (lun-there g m l h) .1) then.Status (status-is .2))
 
   -- after a command with one address
-  module _ (f : First) (v : ℕ) (small : v ≤ 255) where
-    answered : addressFits f v ≡ true → Way (full g flag) (stand g 0 (Single f) output.Nothing) → Way (full g flag) (stand g 0 (addressGiven f) (addressOutput f v output.Nothing))
-    answered h w = address g flag fine 0 (Single f) output.Nothing v small refl (rw (h)) refl w
+  answered : (f : First) (v : ℕ) → v ≤ 255 → eqb (cyclesOf f) 1 ≡ true → (next : Then) → thenOf f ≡ next → knowsAddress f v ≡ true → Way (full g flag) (stand g 0 (followed next f (record { 0 = 0 }) (record { 0 = 0 })) (shown next 0 v output.Nothing))
+  answered f v small one next told h =
+      subst (λ (x : Then). Way (full g flag) (stand g 0 (followed x f (record { 0 = 0 }) (record { 0 = 0 })) (shown x 0 v output.Nothing))) told
+      (address g flag fine 0 (Single f) output.Nothing v small refl (rw (h)) (single g flag fine f one))
 
   given : (selected : ℕ) (o : Output) → Way (full g flag) (stand g selected Idle o) → Shows g o
   given selected o w = reached (λ (t : Target). t .decoder .output ≡ o) fine w refl
@@ -81,19 +119,19 @@ module _ (g : Geometry) (flag : ℕ) (fine : Fine (full g flag)) where
   pub output-given : (o : Output) → outputSound g o ≡ true → OutputGiven g o
   output-given output.Nothing h = given 0 _ (still g flag fine)
   output-given (output.Register l c) h =
-      let p = both (ltb l (g .luns)) (leb (c .0) (g .page)) h in
+      let p = both (ltb l (g .luns)) (leb (c .0) (pageSize g)) h in
       let w : Shows g (output.Register l c) = given l _ (register l (ltb-true _ _ (p .0)) c (leb-true _ _ (p .1))) in
       ((c, w), (l, w))
   output-given (output.Parameters at) h =
       given 0 _ (outs output.Parameters 768 (λ _. refl) (λ _. refl) (λ _. refl) (λ _. refl) 0
-      (answered Parameters 0 (omega arith) refl (command g flag fine Parameters)) at (leb-true _ _ h))
+      (answered ParameterPage 0x00 (omega arith) (page-is .0) then.ParameterPage (page-is .1) (page-is .2)) at (leb-true _ _ h))
   output-given (output.Status l) h = given l _ (status l (ltb-true _ _ h))
   output-given (output.Ids at) h =
       given 0 _ (outs output.Ids 2 (λ _. refl) (λ _. refl) (λ _. refl) (λ _. refl) 0
-      (answered Identify 0 (omega arith) refl (command g flag fine Identify)) at (leb-true _ _ h))
+      (answered ReadId 0x00 (omega arith) (ids-is .0) then.Id (ids-is .1) (ids-is .2)) at (leb-true _ _ h))
   output-given (output.Signature at) h =
       given 0 _ (outs output.Signature 4 (λ _. refl) (λ _. refl) (λ _. refl) (λ _. refl) 0
-      (answered Identify 0x20 (omega arith) refl (command g flag fine Identify)) at (leb-true _ _ h))
+      (answered ReadId 0x20 (omega arith) (ids-is .0) then.Id (ids-is .1) (ids-is .3)) at (leb-true _ _ h))
   output-given (output.Feature at) h =
       given 0 _ (outs output.Feature 4 (λ _. refl) (λ _. refl) (λ _. refl) (λ _. refl) 0
-      (answered GetFeature 1 (omega arith) refl (command g flag fine GetFeature)) at (leb-true _ _ h))
+      (answered GetFeatures 0x01 (omega arith) (feature-is .0) then.FeatureOut (feature-is .1) (feature-is .2)) at (leb-true _ _ h))

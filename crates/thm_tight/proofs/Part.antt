@@ -1,62 +1,60 @@
 -- Of each geometry within the limits there is a part: its parameter page and its buffers are ones that power-on accepts.
 -- Assumes nothing.
-use mathlib.Core.Path.{_≡_, refl, sym}
-use mathlib.Core.Bool.{Bool, true, false, _&&_}
+use mathlib.Core.Path.{_≡_, refl, sym, ap, _∙_}
+use mathlib.Core.Bool.{Bool, true, false, _&&_, _||_, not}
 use mathlib.Core.List.{List, [], _∷_, _++_}
-use Prim.Native.Nat.{ℕ, zero, suc, _+_, _-_, _*_, _/_, _%_, _≤_, _<_}
+use Prim.Native.Nat.{ℕ, zero, suc, _+_, _*_, _/_, _%_, _≤_, _<_}
 use native.Mathlib.Omega.{arith}
 use lib.ListN.{length, getD, replicate, length-replicate, getD-replicate}
 use lib.Dec.{leb}
 use borrow.Author.Tests.{le-leb, eq-eqb}
 use Rattle.slices.specs.Cells.{allAtMost}
 use Rattle.page.specs.Crc.{crcOf}
-use Rattle.page.specs.Page.{field, bitOf, signed, features, optionalCommands, makerId, dataBytes, spareBytes, pagesABlock, blocksALun, lunCount, addressCycles, programsAPage, storedCrc, crcGood, dataInLimits, spareInLimits, pagesInLimits, blocksInLimits, lunsInLimits, lunsAsFeatured, narrowBus, cyclesAsHouse, programsInLimits, fieldsInLimits}
-use Rattle.target.specs.Pick.{pick}
-use Rattle.target.specs.Sizes.{inLimits, sized}
+use Rattle.page.specs.Page as page
+use Rattle.page.specs.Page.{field, signed, features, optionalCommands, makerId, dataBytes, spareBytes, pagesABlock, blocksALun, lunCount, addressCycles, programsAPage, storedCrc, crcGood, dataInLimits, spareInLimits, pagesInLimits, blocksInLimits, lunsInLimits, lunsAsFeatured, narrowBus, cyclesAsHouse, programsInLimits, fieldsInLimits}
+use Rattle.target.specs.Words as words
+use Rattle.target.specs.Words.{hasFeature}
+use Rattle.target.specs.Sizes.{pageSize, inLimits, sized}
 use Rattle.target.specs.declared.Geometry.{Geometry}
-use Rattle.target.specs.declared.Options.{Options}
+use Rattle.target.specs.declared.Words.{Words}
 use Rattle.target.proofs.Limits.{Limits, limits}
-use Rattle.power.specs.Power.{geometryOf, optionsOf, wrongLength, unsigned, crcBad, fieldBad, bufferBad, contentBad, powerAnswer}
+use Rattle.power.specs.Power.{geometryOf, wordsOf, wrongLength, unsigned, crcBad, fieldBad, bufferBad, contentBad, powerAnswer}
 use Rattle.power.specs.declared.PowerAnswer.the-variants.{Accepted}
 use Rattle.power.proofs.Answers.{later}
-use Rattle.thm_kept.proofs.Choice.{and-true, or-true}
+use Rattle.step.specs.Usable.{wordsSound}
+use Rattle.target.proofs.Both.{both}
+use Rattle.thm_kept.proofs.Choice.{and-true}
 use Rattle.thm_tight.proofs.Crc.{crc-small}
 
 -- what a part is made of; `flag` is that of every block
 pub record Part : Type 0 where
   pub geometry : Geometry
-  pub options : Options
+  pub words : Words
   pub maker : ℕ
   pub device : ℕ
   pub flag : ℕ
 
 pub record Fine (k : Part) : Type 0 where
   pub limited : inLimits (k .geometry) ≡ true
+  pub worded : wordsSound (k .geometry) (k .words) ≡ true
+  pub features-word : k .words .features ≤ 65535
+  pub optional-word : k .words .optional ≤ 65535
   pub maker-byte : k .maker ≤ 255
   pub device-byte : k .device ≤ 255
   pub flag-bit : k .flag ≤ 1
 
--- data bytes as many as may be, the rest spare
-abbrev spareOf : ℕ → ℕ
-spareOf page = page - 16384
-
-abbrev dataOf : ℕ → ℕ
-dataOf page = page - spareOf page
-
-abbrev commandBits : Options → ℕ
-commandBits o = pick (o .look) 8 0 + pick (o .fetch) 64 0 + pick (o .features) 4 0
-
 -- bytes 80 on
 abbrev sizesThen : Geometry → List ℕ → List ℕ
 sizesThen g rest =
-    dataOf (g .page) % 256 ∷ dataOf (g .page) / 256 ∷ 0 ∷ 0 ∷ spareOf (g .page) % 256 ∷ spareOf (g .page) / 256
+    g .bytes % 256 ∷ g .bytes / 256 ∷ 0 ∷ 0 ∷ g .spare % 256 ∷ g .spare / 256
     ∷ (replicate 6 0 ++ (g .pages % 256 ∷ g .pages / 256 ∷ 0 ∷ 0 ∷ g .blocks % 256 ∷ g .blocks / 256 ∷ 0 ∷ 0 ∷ g .luns ∷ 0x23
     ∷ (replicate 8 0 ++ (g .programs ∷ (replicate 143 0 ++ rest)))))
 
 -- the 254 bytes, and what follows them
 abbrev bytesThen : Part → List ℕ → List ℕ
 bytesThen k rest =
-    0x4f ∷ 0x4e ∷ 0x46 ∷ 0x49 ∷ 0 ∷ 0 ∷ 2 ∷ pick (k .options .clear) 1 0 ∷ commandBits (k .options) ∷ 0
+    0x4f ∷ 0x4e ∷ 0x46 ∷ 0x49 ∷ 0 ∷ 0
+    ∷ k .words .features % 256 ∷ k .words .features / 256 ∷ k .words .optional % 256 ∷ k .words .optional / 256
     ∷ (replicate 54 0 ++ (k .maker ∷ (replicate 15 0 ++ sizesThen (k .geometry) rest)))
 
 crcIn : Part → ℕ
@@ -70,10 +68,10 @@ abbrev blocksIn : Part → ℕ
 blocksIn k = k .geometry .luns * k .geometry .blocks
 
 pub arrayOf : Part → List ℕ
-arrayOf k = replicate (blocksIn k * k .geometry .pages * k .geometry .page) 0xff
+arrayOf k = replicate (blocksIn k * k .geometry .pages * pageSize (k .geometry)) 0xff
 
 pub registersOf : Part → List ℕ
-registersOf k = replicate (k .geometry .luns * k .geometry .page) 0xff
+registersOf k = replicate (k .geometry .luns * pageSize (k .geometry)) 0xff
 
 pub countsOf : Part → List ℕ
 countsOf k = replicate (blocksIn k * k .geometry .pages) 0
@@ -93,13 +91,13 @@ one-byte : (n : ℕ) → n + 256 * 0 ≡ n
 one-byte n = omega arith
 
 module _ (k : Part) where
-  data-is : dataBytes (pageOf k) ≡ dataOf (k .geometry .page)
+  data-is : dataBytes (pageOf k) ≡ k .geometry .bytes
   unfolding dataBytes field pageOf
-  data-is = four-bytes (dataOf (k .geometry .page))
+  data-is = four-bytes (k .geometry .bytes)
 
-  spare-is : spareBytes (pageOf k) ≡ spareOf (k .geometry .page)
+  spare-is : spareBytes (pageOf k) ≡ k .geometry .spare
   unfolding spareBytes field pageOf
-  spare-is = two-bytes (spareOf (k .geometry .page))
+  spare-is = two-bytes (k .geometry .spare)
 
   pages-is : pagesABlock (pageOf k) ≡ k .geometry .pages
   unfolding pagesABlock field pageOf
@@ -124,41 +122,28 @@ module _ (k : Part) where
   pub geometry-is : geometryOf (pageOf k) ≡ k .geometry
   unfolding geometryOf
   geometry-is =
-      let whole : dataBytes (pageOf k) + spareBytes (pageOf k) ≡ k .geometry .page = omega (arith, data-is, spare-is) in
-      λ i. record { page = whole i; pages = pages-is i; blocks = blocks-is i; luns = luns-is i; programs = programs-is i }
+      λ i. record { bytes = data-is i; spare = spare-is i; pages = pages-is i; blocks = blocks-is i; luns = luns-is i; programs = programs-is i }
 
--- each option is its bit
-commands-read : (look fetch feature : Bool) → (bitOf (pick look 8 0 + pick fetch 64 0 + pick feature 4 0 + 256 * (0 + 256 * 0)) 3 ≡ look) × (bitOf (pick look 8 0 + pick fetch 64 0 + pick feature 4 0 + 256 * (0 + 256 * 0)) 6 ≡ fetch) × (bitOf (pick look 8 0 + pick fetch 64 0 + pick feature 4 0 + 256 * (0 + 256 * 0)) 2 ≡ feature)
-unfolding bitOf
-commands-read true true true = (refl, refl, refl)
-commands-read true true false = (refl, refl, refl)
-commands-read true false true = (refl, refl, refl)
-commands-read true false false = (refl, refl, refl)
-commands-read false true true = (refl, refl, refl)
-commands-read false true false = (refl, refl, refl)
-commands-read false false true = (refl, refl, refl)
-commands-read false false false = (refl, refl, refl)
-
-features-read : (clear : Bool) → (bitOf (2 + 256 * (pick clear 1 0 + 256 * 0)) 0 ≡ false) × (bitOf (2 + 256 * (pick clear 1 0 + 256 * 0)) 1 ≡ true) × (bitOf (2 + 256 * (pick clear 1 0 + 256 * 0)) 8 ≡ clear)
-unfolding bitOf
-features-read true = (refl, refl, refl)
-features-read false = (refl, refl, refl)
+-- a bit of a page's word is that bit of the record's
+same-bit : (n k : ℕ) → page.bitOf n k ≡ words.bitOf n k
+unfolding page.bitOf words.bitOf
+same-bit n k = refl
 
 module _ (k : Part) where
-  pub options-is : optionsOf (pageOf k) ≡ k .options
-  unfolding optionsOf optionalCommands features field pageOf
-  options-is =
-      let o = k .options in
-      let p = commands-read (o .look) (o .fetch) (o .features) in
-      λ i. record { look = p .0 i; fetch = p .1 i; features = p .2 i; clear = features-read (o .clear) .2 i }
-
-  bus-is : bitOf (features (pageOf k)) 0 ≡ false
+  features-is : features (pageOf k) ≡ k .words .features
   unfolding features field pageOf
-  bus-is = features-read (k .options .clear) .0
+  features-is = two-bytes (k .words .features)
 
-  many-is : bitOf (features (pageOf k)) 1 ≡ true
-  unfolding features field pageOf
-  many-is = features-read (k .options .clear) .1
+  optional-is : optionalCommands (pageOf k) ≡ k .words .optional
+  unfolding optionalCommands field pageOf
+  optional-is = two-bytes (k .words .optional)
+
+  pub words-is : wordsOf (pageOf k) ≡ k .words
+  unfolding wordsOf
+  words-is = λ i. record { features = features-is i; optional = optional-is i }
+
+  bit-is : (n : ℕ) → page.bitOf (features (pageOf k)) n ≡ hasFeature (k .words) n
+  bit-is n = same-bit (features (pageOf k)) n ∙ ap (λ (x : ℕ). words.bitOf x n) features-is
 
   length-is : length (pageOf k) ≡ 256
   unfolding pageOf
@@ -187,31 +172,34 @@ unfolding allAtMost
 all-most most zero v h = refl
 all-most most (suc n) v h = rw (le-leb v most h) (all-most most n v h)
 
-module _ (k : Part) (m : Limits (k .geometry)) where
+module _ (k : Part) (f : Fine k) where
   fields-fine : fieldsInLimits (pageOf k) ≡ true
   unfolding fieldsInLimits dataInLimits spareInLimits pagesInLimits blocksInLimits lunsInLimits lunsAsFeatured narrowBus cyclesAsHouse programsInLimits
   fields-fine =
       let p = pageOf k in
+      let g = k .geometry in
+      let m = limits g (f .limited) in
+      let bus = both (not (hasFeature (k .words) 0)) (leb (g .luns) 1 || hasFeature (k .words) 1) (f .worded) in
       all9 (dataInLimits p) (spareInLimits p) (pagesInLimits p) (blocksInLimits p) (lunsInLimits p) (lunsAsFeatured p) (narrowBus p) (cyclesAsHouse p) (programsInLimits p)
-      (rw (data-is k) (inside 16 (dataOf (k .geometry .page)) 16384 (omega arith) (omega arith)))
-      (rw (spare-is k) (le-leb (spareOf (k .geometry .page)) 2048 (omega arith)))
-      (rw (pages-is k) (inside 1 (k .geometry .pages) 256 (m .pages-min) (m .pages-max)))
-      (rw (blocks-is k) (inside 1 (k .geometry .blocks) 4096 (m .blocks-min) (m .blocks-max)))
-      (rw (luns-is k) (inside 1 (k .geometry .luns) 4 (m .luns-min) (m .luns-max)))
-      (rw (many-is k) (or-true (leb (lunCount (pageOf k)) 1)))
-      (rw (bus-is k))
+      (rw (data-is k) (inside 16 (g .bytes) 16384 (m .bytes-min) (m .bytes-max)))
+      (rw (spare-is k) (le-leb (g .spare) 2048 (m .spare-max)))
+      (rw (pages-is k) (inside 1 (g .pages) 256 (m .pages-min) (m .pages-max)))
+      (rw (blocks-is k) (inside 1 (g .blocks) 4096 (m .blocks-min) (m .blocks-max)))
+      (rw (luns-is k) (inside 1 (g .luns) 4 (m .luns-min) (m .luns-max)))
+      (rw (luns-is k, bit-is k 1) (bus .1))
+      (rw (bit-is k 0) (bus .0))
       (rw (cycles-is k))
-      (rw (programs-is k) (inside 1 (k .geometry .programs) 8 (m .programs-min) (m .programs-max)))
+      (rw (programs-is k) (inside 1 (g .programs) 8 (m .programs-min) (m .programs-max)))
 
 all4 : (a b c d : Bool) → a ≡ true → b ≡ true → c ≡ true → d ≡ true → (a && b && c && d) ≡ true
 all4 a b c d p q r s = rw (p, q, r, s)
 
 module _ (k : Part) where
-  array-length : length (arrayOf k) ≡ blocksIn k * k .geometry .pages * k .geometry .page
+  array-length : length (arrayOf k) ≡ blocksIn k * k .geometry .pages * pageSize (k .geometry)
   unfolding arrayOf
   array-length = length-replicate _ 0xff
 
-  registers-length : length (registersOf k) ≡ k .geometry .luns * k .geometry .page
+  registers-length : length (registersOf k) ≡ k .geometry .luns * pageSize (k .geometry)
   unfolding registersOf
   registers-length = length-replicate _ 0xff
 
@@ -248,7 +236,7 @@ module _ (k : Part) (f : Fine k) where
       sym (later _ _ _ (rw (length-is k))
       (later _ _ _ (rw (signed-is k))
       (later _ _ _ (rw (crc-is k))
-      (later _ _ _ (rw (fields-fine k (limits (k .geometry) (f .limited))))
+      (later _ _ _ (rw (fields-fine k f))
       (later _ _ _ (rw (geometry-is k, sizes-fine k))
       (later _ _ _ (rw (counts-fine, flags-fine)) refl))))))
 
@@ -266,10 +254,6 @@ zeros : (n : ℕ) (xs : List ℕ) → allAtMost 255 xs ≡ true → allAtMost 25
 zeros zero xs h = h
 zeros (suc n) xs h = first-byte 0 (replicate n 0 ++ xs) (omega arith) (zeros n xs h)
 
-bit-most : (b : Bool) (n : ℕ) → pick b n 0 ≤ n
-bit-most true n = omega arith
-bit-most false n = omega arith
-
 sizes-bytes : (g : Geometry) (rest : List ℕ) → Limits g → allAtMost 255 rest ≡ true → allAtMost 255 (sizesThen g rest) ≡ true
 sizes-bytes g rest m h =
     first-byte _ _ (omega arith) (first-byte _ _ (omega arith) (first-byte _ _ (omega arith) (first-byte _ _ (omega arith)
@@ -285,15 +269,15 @@ module _ (k : Part) (f : Fine k) where
       let small = crc-small (bytesThen k []) in
       first-byte _ _ (omega arith) (first-byte _ _ (omega arith) (first-byte _ _ (omega arith) (first-byte _ _ (omega arith)
       (first-byte _ _ (omega arith) (first-byte _ _ (omega arith) (first-byte _ _ (omega arith)
-      (first-byte _ _ (omega (arith, bit-most (k .options .clear) 1)) (first-byte _ _ (omega (arith, bit-most (k .options .look) 8, bit-most (k .options .fetch) 64, bit-most (k .options .features) 4))
-      (first-byte _ _ (omega arith) (zeros 54 _ (first-byte _ _ (f .maker-byte) (zeros 15 _
+      (first-byte _ _ (omega (arith, f .features-word)) (first-byte _ _ (omega arith)
+      (first-byte _ _ (omega (arith, f .optional-word)) (zeros 54 _ (first-byte _ _ (f .maker-byte) (zeros 15 _
       (sizes-bytes (k .geometry) _ (limits (k .geometry) (f .limited))
       (first-byte _ _ (omega arith) (first-byte _ [] (omega arith) (no-byte))))))))))))))))
 
   pub array-bytes : allAtMost 255 (arrayOf k) ≡ true
   unfolding arrayOf
-  array-bytes = all-most 255 (blocksIn k * k .geometry .pages * k .geometry .page) 0xff (omega arith)
+  array-bytes = all-most 255 (blocksIn k * k .geometry .pages * pageSize (k .geometry)) 0xff (omega arith)
 
   pub registers-bytes : allAtMost 255 (registersOf k) ≡ true
   unfolding registersOf
-  registers-bytes = all-most 255 (k .geometry .luns * k .geometry .page) 0xff (omega arith)
+  registers-bytes = all-most 255 (k .geometry .luns * pageSize (k .geometry)) 0xff (omega arith)

@@ -3,37 +3,64 @@
 use mathlib.Core.Path.{_≡_, refl}
 use mathlib.Core.Bool.{Bool, true, false}
 use Prim.Native.Nat.{ℕ, _≤_, _<_}
+use lib.Dec.{leb}
 use native.Mathlib.Omega.{arith}
 use Rattle.target.specs.Pick.{orElse}
 use Rattle.target.specs.Events.{badRecord}
+use Rattle.target.specs.Words.{bitOf}
 use Rattle.target.specs.Sizes.{inLimits}
 use Rattle.target.specs.declared.Geometry.{Geometry}
-use Rattle.target.specs.declared.Options.{Options}
+use Rattle.target.specs.declared.Words.{Words}
+use Rattle.target.specs.declared.Findings.{Findings}
 use Rattle.target.specs.declared.Target.{Target}
 use Rattle.target.specs.declared.Sequence.the-variants.{Setting}
 use Rattle.target.specs.declared.Output.the-variants as output
 use Rattle.target.specs.declared.Verdict.the-variants.{Accepted}
 use Rattle.rules.specs.Rules.{lineHeld, verdict}
 use Rattle.rules.proofs.ByKind.{event, protect-verdict}
-use Rattle.effects.specs.After.{lunsAfter, clearAfter, highAfter, targetAfter}
+use Rattle.effects.specs.Effects.{lunsAfter, clearAfter, highAfter, targetAfter}
+use Rattle.step.specs.Usable.{wordsSound}
 use Rattle.step.proofs.Sound.{sound}
+use Rattle.thm_kept.proofs.Choice.{or-true}
 use Rattle.thm_tight.specs.Tight.{Reached, Tight}
 use Rattle.thm_tight.proofs.Part.{Part, Fine}
 use Rattle.thm_tight.proofs.Ways.{fresh, at-power, onward, reached}
-use Rattle.thm_tight.proofs.Cycles.{full, stand, every, still, in-accepted}
-use Rattle.thm_tight.proofs.Sequences.{setting-three, sequence-given}
+use Rattle.thm_tight.proofs.Commands.{every}
+use Rattle.thm_tight.proofs.Cycles.{full, stand, still, in-accepted}
+use Rattle.thm_tight.proofs.Sequences.{setting, setting-three, sequence-given}
 use Rattle.thm_tight.proofs.Outputs.{status, output-given}
 use Rattle.thm_tight.proofs.Marks.{working-given, fail-given}
 
--- a part of the geometry, with these options and IDs
-abbrev made : Geometry → Options → ℕ → ℕ → Part
-made g o maker device = record { geometry = g; options = o; maker = maker; device = device; flag = 0 }
+-- a part of the geometry, with these words and IDs
+abbrev made : Geometry → Words → ℕ → ℕ → Part
+made g w maker device = record { geometry = g; words = w; maker = maker; device = device; flag = 0 }
 
-made-fine : (g : Geometry) (o : Options) (maker device : ℕ) → inLimits g ≡ true → maker ≤ 255 → device ≤ 255 → Fine (made g o maker device)
-made-fine g o maker device h p q = record { limited = h; maker-byte = p; device-byte = q; flag-bit = omega arith }
+made-fine : (g : Geometry) (w : Words) (maker device : ℕ) → inLimits g ≡ true → wordsSound g w ≡ true → w .features ≤ 65535 → w .optional ≤ 65535 → maker ≤ 255 → device ≤ 255 → Fine (made g w maker device)
+made-fine g w maker device h s f o p q = record {
+  limited = h;
+  worded = s;
+  features-word = f;
+  optional-word = o;
+  maker-byte = p;
+  device-byte = q;
+  flag-bit = omega arith;
+}
+
+-- the words with every bit but the 16-bit bus, for any count of LUNs
+every-sound : (g : Geometry) → wordsSound g every ≡ true
+unfolding bitOf
+every-sound g = or-true (leb (g .luns) 1)
 
 full-fine : (g : Geometry) (flag : ℕ) → inLimits g ≡ true → flag ≤ 1 → Fine (full g flag)
-full-fine g flag h k = record { limited = h; maker-byte = omega arith; device-byte = omega arith; flag-bit = k }
+full-fine g flag h k = record {
+  limited = h;
+  worded = every-sound g;
+  features-word = omega arith;
+  optional-word = omega arith;
+  maker-byte = omega arith;
+  device-byte = omega arith;
+  flag-bit = k;
+}
 
 -- The protect line, program-clear, the first FFh.
 
@@ -41,23 +68,23 @@ lowers : (k : Part) → verdict (fresh k) (event 5 0) ≡ Accepted
 unfolding orElse badRecord lineHeld
 lowers k = protect-verdict (fresh k) 0
 
-lowered : (k : Part) (spoilt : Bool) → targetAfter (fresh k) (event 5 0) spoilt ≡ targetAfter (fresh k) (event 5 0) false
+lowered : (k : Part) (found : Findings) → targetAfter (fresh k) (event 5 0) found ≡ targetAfter (fresh k) (event 5 0) (record { proceeds = true })
 unfolding targetAfter lunsAfter
-lowered k spoilt = refl
+lowered k found = refl
 
-is-low : (k : Part) → targetAfter (fresh k) (event 5 0) false .high ≡ false
+is-low : (k : Part) → targetAfter (fresh k) (event 5 0) (record { proceeds = true }) .high ≡ false
 unfolding targetAfter highAfter
 is-low k = refl
 
 -- EFh's fourth byte
 abbrev set : Geometry → Target
-set g = stand g 0 (Setting 3 0x40) output.Nothing
+set g = stand g 0 (Setting (setting 3 0x40)) output.Nothing
 
-cleared : (g : Geometry) (spoilt : Bool) → targetAfter (set g) (event 2 0) spoilt ≡ targetAfter (set g) (event 2 0) false
+cleared : (g : Geometry) (found : Findings) → targetAfter (set g) (event 2 0) found ≡ targetAfter (set g) (event 2 0) (record { proceeds = true })
 unfolding targetAfter lunsAfter
-cleared g spoilt = refl
+cleared g found = refl
 
-is-clear : (g : Geometry) → targetAfter (set g) (event 2 0) false .clear ≡ true
+is-clear : (g : Geometry) → targetAfter (set g) (event 2 0) (record { proceeds = true }) .clear ≡ true
 unfolding targetAfter clearAfter
 is-clear g = refl
 
@@ -66,13 +93,13 @@ module _ (g : Geometry) (fine : Fine (full g 0)) where
   high-given true = reached (λ (t : Target). t .high ≡ true) fine (at-power (full g 0)) refl
   high-given false =
       reached (λ (t : Target). t .high ≡ false) fine
-      (onward fine (at-power (full g 0)) (event 5 0) (omega arith) (omega arith) (lowers (full g 0)) (targetAfter (fresh (full g 0)) (event 5 0) false) (λ _. lowered (full g 0) _))
+      (onward fine (at-power (full g 0)) (event 5 0) (omega arith) (omega arith) (lowers (full g 0)) (targetAfter (fresh (full g 0)) (event 5 0) (record { proceeds = true })) (λ _. lowered (full g 0) _))
       (is-low (full g 0))
 
   clear-given : (b : Bool) → Reached g (λ t. t .clear ≡ b)
   clear-given true =
       reached (λ (t : Target). t .clear ≡ true) fine
-      (onward fine (setting-three g 0 fine 0x40 refl) (event 2 0) (omega arith) (omega arith) (in-accepted g 0 (Setting 3 0x40) output.Nothing 0 refl refl refl) (targetAfter (set g) (event 2 0) false) (λ _. cleared g _))
+      (onward fine (setting-three g 0 fine 0x40 refl) (event 2 0) (omega arith) (omega arith) (in-accepted g 0 (Setting (setting 3 0x40)) output.Nothing 0 refl refl refl) (targetAfter (set g) (event 2 0) (record { proceeds = true })) (λ _. cleared g _))
       (is-clear g)
   clear-given false = reached (λ (t : Target). t .clear ≡ false) fine (at-power (full g 0)) refl
 
@@ -84,22 +111,26 @@ module _ (g : Geometry) (fine : Fine (full g 0)) where
   selected-given l h = reached (λ (t : Target). t .selected ≡ l) fine (status g 0 fine l h) refl
 
 pub tight : Tight
-tight t h =
+tight t typed h =
     let s = sound t h in
     let g = t .geometry in
+    let w = t .words in
     let fine = full-fine g 0 (s .limited) (omega arith) in
     let ruined = full-fine g 1 (s .limited) (omega arith) in
+    let worded = made-fine g w 0 0 (s .limited) (s .words) (typed .features) (typed .optional) (omega arith) (omega arith) in
+    let named = made-fine g w (t .ids .maker) (t .ids .device) (s .limited) (s .words) (typed .features) (typed .optional) (typed .maker) (typed .device) in
     record {
       geometry = reached (λ (u : Target). u .geometry ≡ g) fine (at-power (full g 0)) refl;
-      options = reached (λ (u : Target). u .options ≡ t .options) (made-fine g (t .options) 0 0 (s .limited) (omega arith) (omega arith)) (at-power (made g (t .options) 0 0)) refl;
-      maker = λ small. reached (λ (u : Target). u .ids .maker ≡ t .ids .maker) (made-fine g every (t .ids .maker) 0 (s .limited) small (omega arith)) (at-power (made g every (t .ids .maker) 0)) refl;
-      device = λ small. reached (λ (u : Target). u .ids .device ≡ t .ids .device) (made-fine g every 0 (t .ids .device) (s .limited) (omega arith) small) (at-power (made g every 0 (t .ids .device))) refl;
+      features = reached (λ (u : Target). u .words .features ≡ w .features) worded (at-power (made g w 0 0)) refl;
+      optional = reached (λ (u : Target). u .words .optional ≡ w .optional) worded (at-power (made g w 0 0)) refl;
+      maker = reached (λ (u : Target). u .ids .maker ≡ t .ids .maker) named (at-power (made g w (t .ids .maker) (t .ids .device))) refl;
+      device = reached (λ (u : Target). u .ids .device ≡ t .ids .device) named (at-power (made g w (t .ids .maker) (t .ids .device))) refl;
       high = high-given g fine (t .high);
       clear = clear-given g fine (t .clear);
       seen = seen-given g fine (t .seen);
       selected = selected-given g fine (t .selected) (s .selected);
       working = λ l k. working-given g fine ruined l k (t .luns) (s .marks);
       fail = λ l k. fail-given g fine ruined l k (t .luns) (s .marks);
-      sequence = sequence-given g 0 fine (t .decoder .sequence) (s .sequence);
+      sequence = sequence-given g 0 fine (t .decoder .sequence) (typed .sequence) (s .sequence);
       output = output-given g 0 fine (t .decoder .output) (s .output);
     }

@@ -12,29 +12,25 @@ use native.Mathlib.Omega.{arith}
 use lib.ListN.{length}
 use lib.Dec.{leb, ltb}
 use borrow.Author.Tests.{le-leb, ltb-true, ltb-false}
-use Rattle.target.specs.Pick.{pick}
-use Rattle.target.specs.Place.{ready}
+use Rattle.target.specs.Luns.{allReady}
 use Rattle.target.specs.declared.Column.{Column}
 use Rattle.target.specs.declared.Event.{Event}
 use Rattle.target.specs.declared.Target.{Target}
 use Rattle.target.specs.declared.Sequence.the-variants.{Idle}
 use Rattle.target.specs.declared.Output.the-variants as output
-use Rattle.target.specs.declared.Refusal.the-variants.{NotUsable}
-use Rattle.target.specs.declared.Reply.the-variants.{Refused}
 use Rattle.target.specs.declared.Verdict.the-variants.{Accepted}
 use Rattle.target.proofs.Both.{both}
 use Rattle.power.specs.Power.{poweredOf}
 use Rattle.rules.specs.Rules.{verdict}
-use Rattle.effects.specs.After.{targetAfter}
-use Rattle.step.specs.Usable.{usable}
-use Rattle.step.specs.Buffers.{spoiltBy}
-use Rattle.step.specs.Step.{Buffers, Outcome, acceptedBy, accepted, byVerdict, steady, stepOf}
+use Rattle.effects.specs.Effects.{targetAfter}
+use Rattle.step.specs.Buffers.{findings}
+use Rattle.step.specs.Step.{State, Buffers, Outcome, acceptedBy, accepted, byVerdict, steady}
 use Rattle.thm_kept.proofs.Choice.{and-true}
-use Rattle.thm_kept.proofs.Kept.{Fit, step-steady}
-use Rattle.thm_demands.specs.Runs.{State, stepAt, left, after, poweredUp}
-use Rattle.thm_demands.proofs.Promised.{never-unusable}
+use Rattle.thm_kept.proofs.Kept.{step-steady}
+use Rattle.thm_demands.specs.Runs.{stepAt, left, after, poweredUp}
+use Rattle.thm_demands.proofs.Promised.{powered-fit, run-fit}
 use Rattle.thm_tight.specs.Tight.{byteEvents, Reached}
-use Rattle.thm_tight.proofs.Part.{Part, Fine, pageOf, arrayOf, registersOf, countsOf, flagsOf, geometry-is, options-is, maker-is, powers-on, page-bytes, array-bytes, registers-bytes}
+use Rattle.thm_tight.proofs.Part.{Part, Fine, pageOf, arrayOf, registersOf, countsOf, flagsOf, geometry-is, words-is, maker-is, powers-on, page-bytes, array-bytes, registers-bytes}
 
 abbrev powered : Part → State
 powered k = poweredUp (pageOf k) (k .device) (arrayOf k) (registersOf k) (countsOf k)
@@ -53,13 +49,13 @@ abbrev pub fresh : Part → Target
 fresh k = record {
   powered = true;
   geometry = k .geometry;
-  options = k .options;
+  words = k .words;
   ids = record { maker = k .maker; device = k .device };
   high = true;
   clear = false;
   seen = false;
   selected = 0;
-  luns = ready ∷ ready ∷ ready ∷ ready ∷ [];
+  luns = allReady;
   decoder = record { sequence = Idle; output = output.Nothing };
 }
 
@@ -71,13 +67,13 @@ at-power k = record {
   stands = λ i. record {
     powered = true;
     geometry = geometry-is k i;
-    options = options-is k i;
+    words = words-is k i;
     ids = record { maker = maker-is k i; device = k .device };
     high = true;
     clear = false;
     seen = false;
     selected = 0;
-    luns = ready ∷ ready ∷ ready ∷ ready ∷ [];
+    luns = allReady;
     decoder = record { sequence = Idle; output = output.Nothing };
   };
 }
@@ -96,29 +92,21 @@ unfolding after
 snoc page flags [] e s = refl
 snoc page flags (d ∷ es) e s = snoc page flags es e (left (stepAt page flags s d))
 
--- a step that is not answered with 13 is one that 13 lets pass
-pub usable-told : (t : Target) (e : Event) (page : List ℕ) (b : Buffers) (flags : List ℕ) → (stepOf t e page b flags .reply ≡ Refused NotUsable → ⊥) → Fit t page b flags
-unfolding stepOf
-usable-told t e page b flags h = by (usable t (length page) (length (b .array)) (length (b .registers)) (length (b .counts)) (length flags)) h
-  where
-    by : (ok : Bool) → (pick ok (steady t e page b flags) (record { reply = Refused NotUsable; target = t; buffers = b }) .reply ≡ Refused NotUsable → ⊥) → ok ≡ true
-    by true k = refl
-    by false k = absurd (k refl)
-
-steady-accepted : (t : Target) (e : Event) (page : List ℕ) (b : Buffers) (flags : List ℕ) → verdict t e ≡ Accepted → steady t e page b flags .target ≡ targetAfter t e (spoiltBy (t .geometry) (t .decoder .sequence) e (b .counts) flags)
+steady-accepted : (t : Target) (e : Event) (page : List ℕ) (b : Buffers) (flags : List ℕ) → verdict t e ≡ Accepted → steady t e page b flags .target ≡ targetAfter t e (findings (t .geometry) (t .decoder .sequence) e (b .counts) flags)
 unfolding steady byVerdict accepted acceptedBy
 steady-accepted t e page b flags h = rw (h)
 
 module _ {k : Part} (f : Fine k) {x : Target} (w : Way k x) (e : Event) (kind : e .kind ≤ 255) (value : e .value ≤ 255) (ok : verdict x e ≡ Accepted) where
-  steps : stepAt (pageOf k) (flagsOf k) (standing k (w .events)) e .target ≡ targetAfter x e (spoiltBy (x .geometry) (x .decoder .sequence) e (standing k (w .events) .buffers .counts) (flagsOf k))
+  steps : stepAt (pageOf k) (flagsOf k) (standing k (w .events)) e .target ≡ targetAfter x e (findings (x .geometry) (x .decoder .sequence) e (standing k (w .events) .buffers .counts) (flagsOf k))
   steps =
       let s = standing k (w .events) in
-      let fit = usable-told (s .target) e (pageOf k) (s .buffers) (flagsOf k) (never-unusable (pageOf k) (k .device) (arrayOf k) (registersOf k) (countsOf k) (flagsOf k) (powers-on k f) (w .events) e s refl) in
+      let on = powered-fit (pageOf k) (k .device) (arrayOf k) (registersOf k) (countsOf k) (flagsOf k) (powers-on k f) in
+      let fit = run-fit (pageOf k) (k .device) (arrayOf k) (registersOf k) (countsOf k) (flagsOf k) (powers-on k f) (w .events) (powered k) on in
       ap (λ (o : Outcome). o .target) (step-steady (s .target) e (pageOf k) (s .buffers) (flagsOf k) fit)
       ∙ steady-accepted (s .target) e (pageOf k) (s .buffers) (flagsOf k) (ap (λ (t : Target). verdict t e) (w .stands) ∙ ok)
-      ∙ ap (λ (t : Target). targetAfter t e (spoiltBy (t .geometry) (t .decoder .sequence) e (s .buffers .counts) (flagsOf k))) (w .stands)
+      ∙ ap (λ (t : Target). targetAfter t e (findings (t .geometry) (t .decoder .sequence) e (s .buffers .counts) (flagsOf k))) (w .stands)
 
-  pub onward : (y : Target) → ((counts : List ℕ) → targetAfter x e (spoiltBy (x .geometry) (x .decoder .sequence) e counts (flagsOf k)) ≡ y) → Way k y
+  pub onward : (y : Target) → ((counts : List ℕ) → targetAfter x e (findings (x .geometry) (x .decoder .sequence) e counts (flagsOf k)) ≡ y) → Way k y
   onward y leaves = record {
     events = w .events ++ (e ∷ []);
     bytes = snoc-bytes (w .events) e (w .bytes) kind value;

@@ -9,12 +9,13 @@ use Prim.Native.Nat.{ℕ, _<_, _≤_}
 use lib.ListN.{length}
 use lib.Dec.{leb}
 use Rattle.slices.specs.Cells.{allAtMost}
-use Rattle.target.specs.Place.{works, failed}
+use Rattle.target.specs.Luns.{works, failed}
 use Rattle.target.specs.declared.Event.{Event}
 use Rattle.target.specs.declared.Geometry.{Geometry}
 use Rattle.target.specs.declared.Target.{Target}
 use Rattle.target.specs.declared.Column.{Column}
 use Rattle.target.specs.declared.Row.{Row}
+use Rattle.target.specs.declared.First.{First}
 use Rattle.target.specs.declared.Sequence.{Sequence}
 use Rattle.target.specs.declared.Sequence.the-variants.{Idle, Columns, Rows, Single, Due, Filling, Moving, Setting}
 use Rattle.target.specs.declared.Output.{Output}
@@ -55,26 +56,31 @@ Stands g s = Reached g (λ t. t .decoder .sequence ≡ s)
 abbrev pub Shows : Geometry → Output → Type 0
 Shows g o = Reached g (λ t. t .decoder .output ≡ o)
 
--- each number of a sequence, in their order, is given by a run that ends in the same case, whatever numbers stand beside it;
--- what has come of a half-given address is bytes
+-- a run that leaves a sequence of the same shape with the same value there, whatever stands beside it
+pub record Leaves {K A : Type 0} (g : Geometry) (shape : K → Sequence) (value : K → A) (k : K) : Type 0 where
+  pub other : K
+  pub stands : Stands g (shape other)
+  pub same : value other ≡ value k
+
+-- each number of a sequence is given by a run, together with the command that it belongs to
 abbrev pub SequenceGiven : Geometry → Sequence → Type 0
 SequenceGiven g Idle = Stands g Idle
-SequenceGiven g (Columns f got low) =
-    ((x : ℕ) × Stands g (Columns f got x))
-    × (low ≤ 255 → (n : ℕ) × Stands g (Columns f n low))
-SequenceGiven g (Rows f c got low mid) =
-    ((n : ℕ) × (x : ℕ) × (y : ℕ) × Stands g (Rows f c n x y))
-    × ((d : Column) × (x : ℕ) × (y : ℕ) × Stands g (Rows f d got x y))
-    × (low ≤ 255 → (d : Column) × (n : ℕ) × (y : ℕ) × Stands g (Rows f d n low y))
-    × (mid ≤ 255 → (d : Column) × (n : ℕ) × (x : ℕ) × Stands g (Rows f d n x mid))
+SequenceGiven g (Columns k) =
+    Leaves {A = First × ℕ} g Columns (λ j. (j .first, j .got)) k
+    × Leaves {A = First × ℕ} g Columns (λ j. (j .first, j .low)) k
+SequenceGiven g (Rows k) =
+    Leaves {A = First × Column} g Rows (λ j. (j .first, j .column)) k
+    × Leaves {A = First × ℕ} g Rows (λ j. (j .first, j .got)) k
+    × Leaves {A = First × ℕ} g Rows (λ j. (j .first, j .low)) k
+    × Leaves {A = First × ℕ} g Rows (λ j. (j .first, j .mid)) k
 SequenceGiven g (Single f) = Stands g (Single f)
-SequenceGiven g (Due f c r) = ((q : Row) × Stands g (Due f c q)) × ((d : Column) × Stands g (Due f d r))
-SequenceGiven g (Filling r at) = ((d : Column) × Stands g (Filling r d)) × ((q : Row) × Stands g (Filling q at))
-SequenceGiven g (Moving r got low) =
-    ((n : ℕ) × (x : ℕ) × Stands g (Moving r n x))
-    × ((q : Row) × (x : ℕ) × Stands g (Moving q got x))
-    × (low ≤ 255 → (q : Row) × (n : ℕ) × Stands g (Moving q n low))
-SequenceGiven g (Setting got value) = ((x : ℕ) × Stands g (Setting got x)) × ((n : ℕ) × Stands g (Setting n value))
+SequenceGiven g (Due k) = Leaves {A = First × Column} g Due (λ j. (j .first, j .column)) k × Leaves {A = First × Row} g Due (λ j. (j .first, j .row)) k
+SequenceGiven g (Filling k) = Leaves g Filling (λ j. j .row) k × Leaves g Filling (λ j. j .at) k
+SequenceGiven g (Moving k) =
+    Leaves g Moving (λ j. j .row) k
+    × Leaves g Moving (λ j. j .got) k
+    × Leaves g Moving (λ j. j .low) k
+SequenceGiven g (Setting k) = Leaves g Setting (λ j. j .got) k × Leaves g Setting (λ j. j .value) k
 
 abbrev pub OutputGiven : Geometry → Output → Type 0
 OutputGiven g output.Nothing = Shows g output.Nothing
@@ -86,12 +92,13 @@ OutputGiven g (output.Ids at) = Shows g (output.Ids at)
 OutputGiven g (output.Signature at) = Shows g (output.Signature at)
 OutputGiven g (output.Feature at) = Shows g (output.Feature at)
 
--- each number of a record is given by a run with its geometry; IDs are bytes, and there are four LUN records
+-- each number of a record is given by a run with its geometry, data and spare bytes among its sizes; there are four LUN records
 pub record Given (t : Target) : Type 0 where
   pub geometry : Reached (t .geometry) (λ u. u .geometry ≡ t .geometry)
-  pub options : Reached (t .geometry) (λ u. u .options ≡ t .options)
-  pub maker : t .ids .maker ≤ 255 → Reached (t .geometry) (λ u. u .ids .maker ≡ t .ids .maker)
-  pub device : t .ids .device ≤ 255 → Reached (t .geometry) (λ u. u .ids .device ≡ t .ids .device)
+  pub features : Reached (t .geometry) (λ u. u .words .features ≡ t .words .features)
+  pub optional : Reached (t .geometry) (λ u. u .words .optional ≡ t .words .optional)
+  pub maker : Reached (t .geometry) (λ u. u .ids .maker ≡ t .ids .maker)
+  pub device : Reached (t .geometry) (λ u. u .ids .device ≡ t .ids .device)
   pub high : Reached (t .geometry) (λ u. u .high ≡ t .high)
   pub clear : Reached (t .geometry) (λ u. u .clear ≡ t .clear)
   pub seen : Reached (t .geometry) (λ u. u .seen ≡ t .seen)
@@ -101,8 +108,27 @@ pub record Given (t : Target) : Type 0 where
   pub sequence : SequenceGiven (t .geometry) (t .decoder .sequence)
   pub output : OutputGiven (t .geometry) (t .decoder .output)
 
+-- what has come of a half-given address is bytes
+abbrev pub bytesHeld : Sequence → Type 0
+bytesHeld Idle = Unit
+bytesHeld (Columns k) = k .low ≤ 255
+bytesHeld (Rows k) = (k .low ≤ 255) × (k .mid ≤ 255)
+bytesHeld (Single f) = Unit
+bytesHeld (Due k) = Unit
+bytesHeld (Filling k) = Unit
+bytesHeld (Moving k) = k .low ≤ 255
+bytesHeld (Setting k) = Unit
+
+-- what the types of the record give: words have 16 bits, IDs and address cycles are bytes
+pub record Typed (t : Target) : Type 0 where
+  pub features : t .words .features ≤ 65535
+  pub optional : t .words .optional ≤ 65535
+  pub maker : t .ids .maker ≤ 255
+  pub device : t .ids .device ≤ 255
+  pub sequence : bytesHeld (t .decoder .sequence)
+
 abbrev pub Tight : Type 0
-Tight = (t : Target) → recordSound t ≡ true → Given t
+Tight = (t : Target) → Typed t → recordSound t ≡ true → Given t
 
 abbrev pub ByItself : Type 0
 ByItself = (t : Target) → t .powered ≡ true → Given t → recordSound t ≡ true

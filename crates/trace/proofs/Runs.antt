@@ -18,9 +18,11 @@ use Rattle.target.proofs.Both.{both}
 use Rattle.target.proofs.Limits.{limits, registers-all}
 use Rattle.target.specs.Pick.{orElse}
 use Rattle.target.specs.Address.{lunOf}
-use Rattle.target.specs.Place.{works}
+use Rattle.target.specs.Luns.{works}
+use Rattle.target.specs.Sizes.{pageSize}
 use Rattle.target.specs.Events.{badRecord}
 use Rattle.target.specs.declared.Row.{Row}
+use Rattle.target.specs.declared.Fill.{Fill}
 use Rattle.target.specs.declared.Column.{Column}
 use Rattle.target.specs.declared.Event.{Event}
 use Rattle.target.specs.declared.Target.{Target}
@@ -31,25 +33,25 @@ use Rattle.target.specs.declared.Verdict.the-variants.{Accepted}
 use Rattle.target.specs.declared.Work.the-variants as work
 use Rattle.rules.specs.Rules.{beforeReset, misplaced, fits, notOffered, lunWorks, pastEnd, verdict}
 use Rattle.rules.proofs.ByKind.{event, in-verdict, out-verdict}
-use Rattle.effects.specs.After.{highAfter, clearAfter, selectedAfter, lunsAfter, sequenceAfter, outputAfter, targetAfter, workOf}
+use Rattle.effects.specs.Effects.{highAfter, clearAfter, selectedAfter, lunsAfter, sequenceAfter, outputAfter, targetAfter, workOf}
 use Rattle.step.specs.Usable.{usable, sequenceSound, outputSound}
-use Rattle.step.specs.Buffers.{registersAfter, arrayAfter, countsAfter, outputByte, spoiltBy}
+use Rattle.step.specs.Buffers.{registersAfter, arrayAfter, countsAfter, outputByte}
 use Rattle.step.specs.Step.{Buffers, Outcome, replyOf, worked, acceptedBy, accepted, byVerdict, steady, stepOf}
 use Rattle.step.proofs.Sound.{sound, filling-place, filling-row, register-place, passes}
 use Rattle.step.proofs.Places.{row-lun}
 use Rattle.thm_kept.proofs.Kept.{step-steady}
 use Rattle.trace.specs.Run.{Running, written, oneMore, ranAll, eventsOf, standsUsable}
-use Rattle.trace.specs.Data.{isData, AllData, filling, giving, Taking, tookOne, takenIn, givenOut, standing, Carried}
+use Rattle.trace.specs.Data.{isData, AllData, decoding, fillingAt, registerAt, filling, giving, Taking, tookOne, takenIn, givenOut, standing, Carried}
 use Rattle.trace.proofs.Turns.{eventAt, turned, stands-kept}
 
 -- the verdict on a data-in cycle of a program that has room
-in-passes : (t : Target) (r : Row) (at v : ℕ) → t .seen ≡ true → at < t .geometry .page → verdict (filling t r at) (event 2 v) ≡ Accepted
+in-passes : (t : Target) (r : Row) (at v : ℕ) → t .seen ≡ true → at < pageSize (t .geometry) → verdict (filling t r at) (event 2 v) ≡ Accepted
 unfolding orElse beforeReset misplaced fits notOffered pastEnd
-in-passes t r at v seen room = in-verdict (filling t r at) v ∙ rw (seen, lt-leb (t .geometry .page) at room)
+in-passes t r at v seen room = in-verdict (filling t r at) v ∙ rw (seen, lt-leb (pageSize (t .geometry)) at room)
 
-out-passes : (t : Target) (l c : ℕ) → t .seen ≡ true → works (t .luns) l ≡ false → c < t .geometry .page → verdict (giving t l c) (event 3 0) ≡ Accepted
+out-passes : (t : Target) (l c : ℕ) → t .seen ≡ true → works (t .luns) l ≡ false → c < pageSize (t .geometry) → verdict (giving t l c) (event 3 0) ≡ Accepted
 unfolding orElse badRecord beforeReset misplaced fits lunWorks pastEnd
-out-passes t l c seen idle room = out-verdict (giving t l c) 0 ∙ rw (seen, idle, lt-leb (t .geometry .page) c room)
+out-passes t l c seen idle room = out-verdict (giving t l c) 0 ∙ rw (seen, idle, lt-leb (pageSize (t .geometry)) c room)
 
 or-false : (b : Bool) → (b || false) ≡ b
 or-false true = refl
@@ -59,23 +61,23 @@ module _ (params flags : List ℕ) (b : Buffers) where
   abbrev Fit : Target → Type 0
   Fit t = usable t (length params) (length (b .array)) (length (b .registers)) (length (b .counts)) (length flags) ≡ true
 
-  in-step : (t : Target) (r : Row) (at v : ℕ) → Fit (filling t r at) → t .seen ≡ true → at < t .geometry .page
+  in-step : (t : Target) (r : Row) (at v : ℕ) → Fit (filling t r at) → t .seen ≡ true → at < pageSize (t .geometry)
       → stepOf (filling t r at) (event 2 v) params b flags
       ≡ record { reply = reply.Accepted; target = filling t r (at + 1); buffers = record { array = b .array; registers = registersAfter (t .geometry) (work.Put (lunOf (t .geometry) r) (record { 0 = at }) v) (b .array) (b .registers); counts = b .counts } }
   unfolding steady byVerdict accepted acceptedBy replyOf worked workOf arrayAfter countsAfter targetAfter highAfter clearAfter selectedAfter lunsAfter sequenceAfter outputAfter
   in-step t r at v fit seen room =
       step-steady (filling t r at) (event 2 v) params b flags fit
       ∙ ap (λ x. byVerdict x (filling t r at) (event 2 v) params b flags) (in-passes t r at v seen room)
-      ∙ (λ j. record { reply = reply.Accepted; target = record { powered = t .powered; geometry = t .geometry; options = t .options; ids = t .ids; high = t .high; clear = t .clear; seen = or-false (t .seen) j; selected = t .selected; luns = t .luns; decoder = record { sequence = Filling r (record { 0 = at + 1 }); output = t .decoder .output } }; buffers = record { array = b .array; registers = registersAfter (t .geometry) (work.Put (lunOf (t .geometry) r) (record { 0 = at }) v) (b .array) (b .registers); counts = b .counts } })
+      ∙ (λ j. record { reply = reply.Accepted; target = decoding t (or-false (t .seen) j) (record { sequence = fillingAt r (at + 1); output = t .decoder .output }); buffers = record { array = b .array; registers = registersAfter (t .geometry) (work.Put (lunOf (t .geometry) r) (record { 0 = at }) v) (b .array) (b .registers); counts = b .counts } })
 
-  out-step : (t : Target) (l c : ℕ) → Fit (giving t l c) → t .seen ≡ true → works (t .luns) l ≡ false → c < t .geometry .page
+  out-step : (t : Target) (l c : ℕ) → Fit (giving t l c) → t .seen ≡ true → works (t .luns) l ≡ false → c < pageSize (t .geometry)
       → stepOf (giving t l c) (event 3 0) params b flags
-      ≡ record { reply = reply.Byte (getD (b .registers) (l * t .geometry .page + c) 0); target = giving t l (c + 1); buffers = b }
+      ≡ record { reply = reply.Byte (getD (b .registers) (l * pageSize (t .geometry) + c) 0); target = giving t l (c + 1); buffers = b }
   unfolding steady byVerdict accepted acceptedBy replyOf outputByte worked workOf arrayAfter registersAfter countsAfter targetAfter highAfter clearAfter selectedAfter lunsAfter sequenceAfter outputAfter
   out-step t l c fit seen idle room =
       step-steady (giving t l c) (event 3 0) params b flags fit
       ∙ ap (λ x. byVerdict x (giving t l c) (event 3 0) params b flags) (out-passes t l c seen idle room)
-      ∙ (λ j. record { reply = reply.Byte (getD (b .registers) (l * t .geometry .page + c) 0); target = record { powered = t .powered; geometry = t .geometry; options = t .options; ids = t .ids; high = t .high; clear = t .clear; seen = or-false (t .seen) j; selected = t .selected; luns = t .luns; decoder = record { sequence = t .decoder .sequence; output = output.Register l (record { 0 = c + 1 }) } }; buffers = b })
+      ∙ (λ j. record { reply = reply.Byte (getD (b .registers) (l * pageSize (t .geometry) + c) 0); target = decoding t (or-false (t .seen) j) (record { sequence = t .decoder .sequence; output = registerAt l (c + 1) }); buffers = b })
 
 -- a data record as an event
 in-event : (records : List ℕ) (j : ℕ) → isData false records j ≡ true → eventAt records j ≡ event 2 (getD records (2 * j + 1) 0)
@@ -126,12 +128,12 @@ module _ (params flags records : List ℕ) (t : Target) (i : ℕ) (b : Buffers) 
   -- where the run stands after k data-in cycles
   module _ (r : Row) (at : ℕ) where
     abbrev took : ℕ → Taking
-    took k = takenIn (t .geometry .page) (lunOf (t .geometry) r * t .geometry .page) records i at k (record { registers = b .registers; room = room })
+    took k = takenIn (pageSize (t .geometry)) (lunOf (t .geometry) r * pageSize (t .geometry)) records i at k (record { registers = b .registers; room = room })
 
     abbrev pub inAfter : ℕ → Running
     inAfter k = record { target = filling t r (at + k); done = i + k; buffers = record { array = b .array; registers = took k .registers; counts = b .counts }; room = took k .room }
 
-    in-next : (k : ℕ) → standsUsable params flags (inAfter k) ≡ true → at + k < t .geometry .page → isData false records (i + k) ≡ true
+    in-next : (k : ℕ) → standsUsable params flags (inAfter k) ≡ true → at + k < pageSize (t .geometry) → isData false records (i + k) ≡ true
         → inAfter (suc k) ≡ oneMore params flags (inAfter k) (eventAt records (i + k))
     unfolding standsUsable oneMore takenIn registersAfter
     in-next k fit here data-in =
@@ -142,7 +144,7 @@ module _ (params flags records : List ℕ) (t : Target) (i : ℕ) (b : Buffers) 
         (in-step params flags (record { array = b .array; registers = took k .registers; counts = b .counts }) t r (at + k) (getD records (2 * (i + k) + 1) 0) fit seen here))
         ∙ ap (oneMore params flags (inAfter k)) (sym (in-event records (i + k) data-in))
 
-    pub in-run : (k : ℕ) (z : Running) → at + k ≤ t .geometry .page → 2 * (i + k) ≤ length records → AllData false records i k → standsUsable params flags (inAfter 0) ≡ true
+    pub in-run : (k : ℕ) (z : Running) → at + k ≤ pageSize (t .geometry) → 2 * (i + k) ≤ length records → AllData false records i k → standsUsable params flags (inAfter 0) ≡ true
         → ranAll params flags (drop (i + 0) (eventsOf records)) (inAfter 0) ≡ z
         → (standsUsable params flags (inAfter k) ≡ true) × (ranAll params flags (drop (i + k) (eventsOf records)) (inAfter k) ≡ z)
     in-run zero z fits there all fit before = (fit, before)
@@ -158,21 +160,21 @@ module _ (params flags records : List ℕ) (t : Target) (i : ℕ) (b : Buffers) 
   -- after k data-out cycles
   module _ (l c : ℕ) (idle : works (t .luns) l ≡ false) where
     abbrev pub outAfter : ℕ → Running
-    outAfter k = record { target = giving t l (c + k); done = i + k; buffers = b; room = givenOut (b .registers) i (l * t .geometry .page + c) k room }
+    outAfter k = record { target = giving t l (c + k); done = i + k; buffers = b; room = givenOut (b .registers) i (l * pageSize (t .geometry) + c) k room }
 
-    out-next : (k : ℕ) → standsUsable params flags (outAfter k) ≡ true → c + k < t .geometry .page → isData true records (i + k) ≡ true
+    out-next : (k : ℕ) → standsUsable params flags (outAfter k) ≡ true → c + k < pageSize (t .geometry) → isData true records (i + k) ≡ true
         → outAfter (suc k) ≡ oneMore params flags (outAfter k) (eventAt records (i + k))
     unfolding standsUsable oneMore givenOut
     out-next k fit here data-out =
         let up : c + suc k ≡ c + k + 1 = omega arith in
         let on : i + suc k ≡ i + k + 1 = omega arith in
-        let place : l * t .geometry .page + c + k ≡ l * t .geometry .page + (c + k) = omega arith in
-        (λ x. record { target = giving t l (up x); done = on x; buffers = b; room = written (givenOut (b .registers) i (l * t .geometry .page + c) k room) (i + k) (reply.Byte (getD (b .registers) (place x) 0)) })
-        ∙ sym (ap (λ (o : Outcome). record { target = o .target; done = i + k + 1; buffers = o .buffers; room = written (givenOut (b .registers) i (l * t .geometry .page + c) k room) (i + k) (o .reply) })
+        let place : l * pageSize (t .geometry) + c + k ≡ l * pageSize (t .geometry) + (c + k) = omega arith in
+        (λ x. record { target = giving t l (up x); done = on x; buffers = b; room = written (givenOut (b .registers) i (l * pageSize (t .geometry) + c) k room) (i + k) (reply.Byte (getD (b .registers) (place x) 0)) })
+        ∙ sym (ap (λ (o : Outcome). record { target = o .target; done = i + k + 1; buffers = o .buffers; room = written (givenOut (b .registers) i (l * pageSize (t .geometry) + c) k room) (i + k) (o .reply) })
         (out-step params flags b t l (c + k) fit seen idle here))
         ∙ ap (oneMore params flags (outAfter k)) (sym (out-event records (i + k) data-out))
 
-    pub out-run : (k : ℕ) (z : Running) → c + k ≤ t .geometry .page → 2 * (i + k) ≤ length records → AllData true records i k → standsUsable params flags (outAfter 0) ≡ true
+    pub out-run : (k : ℕ) (z : Running) → c + k ≤ pageSize (t .geometry) → 2 * (i + k) ≤ length records → AllData true records i k → standsUsable params flags (outAfter 0) ≡ true
         → ranAll params flags (drop (i + 0) (eventsOf records)) (outAfter 0) ≡ z
         → (standsUsable params flags (outAfter k) ≡ true) × (ranAll params flags (drop (i + k) (eventsOf records)) (outAfter k) ≡ z)
     out-run zero z fits there all fit before = (fit, before)
@@ -191,19 +193,19 @@ within-both a b {m} {k} e h = (omega (arith, min-le-left a b), omega (arith, min
 
 -- what rule 13 says of a program's place, and of a register that is put out
 module _ (t : Target) (params array registers counts flags : List ℕ) (fit : usable t (length params) (length array) (length registers) (length counts) (length flags) ≡ true) where
-  pub fill-room : (r : Row) (at : Column) → t .decoder .sequence ≡ Filling r at → (at .0 ≤ t .geometry .page) × (lunOf (t .geometry) r * t .geometry .page + t .geometry .page ≤ length registers) × (length registers ≤ 73728)
-  fill-room r at e =
+  pub fill-room : (f : Fill) → t .decoder .sequence ≡ Filling f → (f .at .0 ≤ pageSize (t .geometry)) × (lunOf (t .geometry) (f .row) * pageSize (t .geometry) + pageSize (t .geometry) ≤ length registers) × (length registers ≤ 73728)
+  fill-room f e =
       let p = passes t params array registers counts flags fit in
-      let k : sequenceSound (t .geometry) (Filling r at) ≡ true = subst (λ s. sequenceSound (t .geometry) s ≡ true) e (sound t (p .record-sound) .sequence) in
+      let k : sequenceSound (t .geometry) (Filling f) ≡ true = subst (λ s. sequenceSound (t .geometry) s ≡ true) e (sound t (p .record-sound) .sequence) in
       let few = registers-all (limits (t .geometry) (sound t (p .record-sound) .limited)) in
-      (filling-place (t .geometry) r at k, omega (arith, piece (t .geometry .page) (row-lun (t .geometry) r (filling-row (t .geometry) r at k)), p .sizes .registers-size), omega (arith, few, p .sizes .registers-size))
+      (filling-place (t .geometry) f k, omega (arith, piece (pageSize (t .geometry)) (row-lun (t .geometry) (f .row) (filling-row (t .geometry) f k)), p .sizes .registers-size), omega (arith, few, p .sizes .registers-size))
 
-  pub give-room : (l : ℕ) (c : Column) → t .decoder .output ≡ output.Register l c → (c .0 ≤ t .geometry .page) × (l * t .geometry .page + t .geometry .page ≤ length registers) × (length registers ≤ 73728)
+  pub give-room : (l : ℕ) (c : Column) → t .decoder .output ≡ output.Register l c → (c .0 ≤ pageSize (t .geometry)) × (l * pageSize (t .geometry) + pageSize (t .geometry) ≤ length registers) × (length registers ≤ 73728)
   give-room l c e =
       let p = passes t params array registers counts flags fit in
       let k = register-place (t .geometry) l c (subst (λ o. outputSound (t .geometry) o ≡ true) e (sound t (p .record-sound) .output)) in
       let few = registers-all (limits (t .geometry) (sound t (p .record-sound) .limited)) in
-      (k .1, omega (arith, piece (t .geometry .page) (k .0), p .sizes .registers-size), omega (arith, few, p .sizes .registers-size))
+      (k .1, omega (arith, piece (pageSize (t .geometry)) (k .0), p .sizes .registers-size), omega (arith, few, p .sizes .registers-size))
 
 -- a burst carries the trace on
 module _ (params flags records array registers counts room : List ℕ) (t : Target) (i : ℕ) (there : 2 * i ≤ length records) where
@@ -219,24 +221,24 @@ module _ (params flags records array registers counts room : List ℕ) (t : Targ
       subst (λ (n : ℕ). Carried params flags records array counts t i registers room t n registers room) (sym same) (record { within = there; fit = refl; rest = refl })
 
   module _ (fit : usable t (length params) (length array) (length registers) (length counts) (length flags) ≡ true) (seen : t .seen ≡ true) where
-    module _ (r : Row) (at : Column) (e : t .decoder .sequence ≡ Filling r at) where
-      in-zero : now ≡ inAfter params flags records t i held room seen r (at .0) 0
+    module _ (f : Fill) (e : t .decoder .sequence ≡ Filling f) where
+      in-zero : now ≡ inAfter params flags records t i held room seen (f .row) (f .at .0) 0
       unfolding takenIn
       in-zero =
-          let up : at .0 ≡ at .0 + 0 = omega arith in
+          let up : f .at .0 ≡ f .at .0 + 0 = omega arith in
           let on : i ≡ i + 0 = omega arith in
-          (λ x. standing (record { powered = t .powered; geometry = t .geometry; options = t .options; ids = t .ids; high = t .high; clear = t .clear; seen = t .seen; selected = t .selected; luns = t .luns; decoder = record { sequence = e x; output = t .decoder .output } }) i array registers counts room)
-          ∙ (λ x. standing (filling t r (up x)) (on x) array registers counts room)
+          (λ x. standing (decoding t (t .seen) (record { sequence = e x; output = t .decoder .output })) i array registers counts room)
+          ∙ (λ x. standing (filling t (f .row) (up x)) (on x) array registers counts room)
 
-      pub filled-on : (k : ℕ) (next : Target) (put told : List ℕ) → at .0 + k ≤ t .geometry .page → 2 * (i + k) ≤ length records → AllData false records i k → next ≡ filling t r (at .0 + k)
-          → _≡_ {A = Taking} (record { registers = put; room = told }) (takenIn (t .geometry .page) (lunOf (t .geometry) r * t .geometry .page) records i (at .0) k (record { registers = registers; room = room }))
+      pub filled-on : (k : ℕ) (next : Target) (put told : List ℕ) → f .at .0 + k ≤ pageSize (t .geometry) → 2 * (i + k) ≤ length records → AllData false records i k → next ≡ filling t (f .row) (f .at .0 + k)
+          → _≡_ {A = Taking} (record { registers = put; room = told }) (takenIn (pageSize (t .geometry)) (lunOf (t .geometry) (f .row) * pageSize (t .geometry)) records i (f .at .0) k (record { registers = registers; room = room }))
           → Carried params flags records array counts t i registers room next (i + k) put told
       unfolding standsUsable
       filled-on k next put told fits upto all is took =
-          let before : ranAll params flags (drop (i + 0) (eventsOf records)) (inAfter params flags records t i held room seen r (at .0) 0) ≡ ranAll params flags (drop i (eventsOf records)) now
-          = (let on : i + 0 ≡ i = omega arith in ap (λ (n : ℕ). ranAll params flags (drop n (eventsOf records)) (inAfter params flags records t i held room seen r (at .0) 0)) on ∙ ap (ranAll params flags (drop i (eventsOf records))) (sym in-zero)) in
-          let after = in-run params flags records t i held room seen r (at .0) k _ fits upto all (ap (standsUsable params flags) (sym in-zero) ∙ fit) before in
-          let end : standing next (i + k) array put counts told ≡ inAfter params flags records t i held room seen r (at .0) k = (λ x. standing (is x) (i + k) array (took x .registers) counts (took x .room)) in
+          let before : ranAll params flags (drop (i + 0) (eventsOf records)) (inAfter params flags records t i held room seen (f .row) (f .at .0) 0) ≡ ranAll params flags (drop i (eventsOf records)) now
+          = (let on : i + 0 ≡ i = omega arith in ap (λ (n : ℕ). ranAll params flags (drop n (eventsOf records)) (inAfter params flags records t i held room seen (f .row) (f .at .0) 0)) on ∙ ap (ranAll params flags (drop i (eventsOf records))) (sym in-zero)) in
+          let after = in-run params flags records t i held room seen (f .row) (f .at .0) k _ fits upto all (ap (standsUsable params flags) (sym in-zero) ∙ fit) before in
+          let end : standing next (i + k) array put counts told ≡ inAfter params flags records t i held room seen (f .row) (f .at .0) k = (λ x. standing (is x) (i + k) array (took x .registers) counts (took x .room)) in
           record { within = upto; fit = ap (standsUsable params flags) end ∙ after .0 ∙ sym fit; rest = ap (ranAll params flags (drop (i + k) (eventsOf records))) end ∙ after .1 }
 
     module _ (l : ℕ) (c : Column) (e : t .decoder .output ≡ output.Register l c) (idle : works (t .luns) l ≡ false) where
@@ -245,11 +247,11 @@ module _ (params flags records array registers counts room : List ℕ) (t : Targ
       out-zero =
           let up : c .0 ≡ c .0 + 0 = omega arith in
           let on : i ≡ i + 0 = omega arith in
-          (λ x. standing (record { powered = t .powered; geometry = t .geometry; options = t .options; ids = t .ids; high = t .high; clear = t .clear; seen = t .seen; selected = t .selected; luns = t .luns; decoder = record { sequence = t .decoder .sequence; output = e x } }) i array registers counts room)
+          (λ x. standing (decoding t (t .seen) (record { sequence = t .decoder .sequence; output = e x })) i array registers counts room)
           ∙ (λ x. standing (giving t l (up x)) (on x) array registers counts room)
 
-      pub given-on : (k : ℕ) (next : Target) (told : List ℕ) → c .0 + k ≤ t .geometry .page → 2 * (i + k) ≤ length records → AllData true records i k → next ≡ giving t l (c .0 + k)
-          → told ≡ givenOut registers i (l * t .geometry .page + c .0) k room → Carried params flags records array counts t i registers room next (i + k) registers told
+      pub given-on : (k : ℕ) (next : Target) (told : List ℕ) → c .0 + k ≤ pageSize (t .geometry) → 2 * (i + k) ≤ length records → AllData true records i k → next ≡ giving t l (c .0 + k)
+          → told ≡ givenOut registers i (l * pageSize (t .geometry) + c .0) k room → Carried params flags records array counts t i registers room next (i + k) registers told
       unfolding standsUsable
       given-on k next told fits upto all is gave =
           let before : ranAll params flags (drop (i + 0) (eventsOf records)) (outAfter params flags records t i held room seen l (c .0) idle 0) ≡ ranAll params flags (drop i (eventsOf records)) now

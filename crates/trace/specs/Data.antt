@@ -7,8 +7,11 @@ use lib.ListN.{length, getD, set, drop}
 use lib.Dec.{eqb}
 use Rattle.slices.specs.Cells.{part, splice}
 use Rattle.target.specs.declared.Row.{Row}
+use Rattle.target.specs.declared.Decoder.{Decoder}
 use Rattle.target.specs.declared.Target.{Target}
+use Rattle.target.specs.declared.Sequence.{Sequence}
 use Rattle.target.specs.declared.Sequence.the-variants.{Filling}
+use Rattle.target.specs.declared.Output.{Output}
 use Rattle.target.specs.declared.Output.the-variants as output
 use Rattle.target.specs.declared.Reply.the-variants.{Accepted, Byte}
 use Rattle.trace.specs.Run.{Running, written, ranAll, eventsOf, standsUsable}
@@ -22,34 +25,34 @@ isData true records j = eqb (getD records (2 * j) 0) 3 && eqb (getD records (2 *
 pub record AllData (out : Bool) (records : List ℕ) (i k : ℕ) : Type 0 where
   pub each : (j : ℕ) → j < k → isData out records (i + j) ≡ true
 
--- the record with a program's next place, and with the place of the register that is put out
-abbrev pub filling : Target → Row → ℕ → Target
-filling t r at = record {
+-- the record with another decoder, and with its mark of the first FFh written out
+abbrev pub decoding : Target → Bool → Decoder → Target
+decoding t seen d = record {
   powered = t .powered;
   geometry = t .geometry;
-  options = t .options;
+  words = t .words;
   ids = t .ids;
   high = t .high;
   clear = t .clear;
-  seen = t .seen;
+  seen = seen;
   selected = t .selected;
   luns = t .luns;
-  decoder = record { sequence = Filling r (record { 0 = at }); output = t .decoder .output };
+  decoder = d;
 }
 
+-- a program with its next place, and the place of the register that is put out
+abbrev pub fillingAt : Row → ℕ → Sequence
+fillingAt r at = Filling (record { row = r; at = record { 0 = at } })
+
+abbrev pub registerAt : ℕ → ℕ → Output
+registerAt l c = output.Register l (record { 0 = c })
+
+-- the record at that place
+abbrev pub filling : Target → Row → ℕ → Target
+filling t r at = decoding t (t .seen) (record { sequence = fillingAt r at; output = t .decoder .output })
+
 abbrev pub giving : Target → ℕ → ℕ → Target
-giving t l c = record {
-  powered = t .powered;
-  geometry = t .geometry;
-  options = t .options;
-  ids = t .ids;
-  high = t .high;
-  clear = t .clear;
-  seen = t .seen;
-  selected = t .selected;
-  luns = t .luns;
-  decoder = record { sequence = t .decoder .sequence; output = output.Register l (record { 0 = c }) };
-}
+giving t l c = decoding t (t .seen) (record { sequence = t .decoder .sequence; output = registerAt l c })
 
 -- registers and replies after k data-in cycles, the first of them record i, into the register that starts at `base`, from `at` on
 pub record Taking : Type 0 where

@@ -5,19 +5,21 @@ use slices::byte_at;
 use slices::put_part;
 use target::Column;
 use target::Decoder;
+use target::Fill;
 use target::Output;
 use target::Reply;
 use target::Row;
 use target::Sequence;
 use target::Target;
 use target::address::lun_of;
-use target::place::works;
+use target::records::works;
+use target::sizes::page_size;
 ghost use mathlib.Core.Path.{_≡_};
 ghost use mathlib.Core.Bool.{true, false, _&&_, _||_};
 ghost use Prim.Native.Nat.{_+_, _*_, _≤_, _<_, min};
 ghost use lib.ListN.{length, getD};
 ghost use lib.Dec.{eqb, ltb};
-ghost use Rattle.target.specs.Place.{works};
+ghost use Rattle.target.specs.Luns.{works};
 ghost use Rattle.target.specs.declared.Sequence.the-variants as sequence;
 ghost use Rattle.target.specs.declared.Output.the-variants as output;
 ghost use Rattle.step.specs.Usable.{usable};
@@ -101,7 +103,8 @@ fn with_place(t: Target, row: Row, at: usize) -> Target
 {
     let d = t.decoder;
     let column = Column(at);
-    let sequence = Sequence::Filling { row, at: column };
+    let fill = Fill { row, at: column };
+    let sequence = Sequence::Filling(fill);
     let decoder = Decoder { sequence, ..d };
     Target { decoder, ..t }
 }
@@ -131,8 +134,7 @@ pub struct Carry {
 // Data into a program.
 fn fill_burst(
     t: Target,
-    row: Row,
-    at: Column,
+    fill: Fill,
     i: usize,
     records: &[u8],
     room: &mut [u8],
@@ -143,16 +145,19 @@ fn fill_burst(
     flags: &[u8],
 ) -> Carry
     requires { ⌜ usable t (length (now params)) (length (now array)) (length (now registers)) (length (now counts)) (length (now flags)) ≡ true ⌝ }
-    requires { ⌜ (t .seen ≡ true) × (t .decoder .sequence ≡ sequence.Filling row at) ⌝ }
+    requires { ⌜ (t .seen ≡ true) × (t .decoder .sequence ≡ sequence.Filling fill) ⌝ }
     requires { ⌜ (2 * i ≤ length (now records)) × (length (now records) ≤ length (now room)) ⌝ }
     ensures { λ r. ⌜ Carried (now (params .entry)) (now (flags .entry)) (now (records .entry)) (now (array .entry)) (now (counts .entry)) t i (now (registers .entry)) (now (room .entry))
         (r .target) (i + r .count) (now (registers .exit)) (now (room .exit)) ⌝ }
 {
     let g = t.geometry;
+    let row = fill.row;
+    let at = fill.at;
     let l = lun_of(g, row);
-    let most = lesser(records.len() / 2 - i, g.page - at.0);
+    let p = page_size(g);
+    let most = lesser(records.len() / 2 - i, p - at.0);
     let k = data_run(false, records, i, most);
-    take_in(g.page, l * g.page, records, i, at.0, k, registers, room);
+    take_in(p, l * p, records, i, at.0, k, registers, room);
     Carry {
         target: with_place(t, row, at.0 + k),
         count: k,
@@ -180,9 +185,10 @@ fn give_burst(
         (r .target) (i + r .count) (now (registers .entry)) (now (room .exit)) ⌝ }
 {
     let g = t.geometry;
-    let most = lesser(records.len() / 2 - i, g.page - column.0);
+    let p = page_size(g);
+    let most = lesser(records.len() / 2 - i, p - column.0);
     let k = data_run(true, records, i, most);
-    give_out(registers, i, lun * g.page + column.0, k, room);
+    give_out(registers, i, lun * p + column.0, k, room);
     Carry {
         target: with_output(t, lun, column.0 + k),
         count: k,
@@ -211,11 +217,10 @@ pub fn burst(
         let d = t.decoder;
         let s = d.sequence;
         match s {
-            Sequence::Filling { row, at } => {
+            Sequence::Filling(fill) => {
                 return fill_burst(
                     t,
-                    row,
-                    at,
+                    fill,
                     i,
                     records,
                     room,

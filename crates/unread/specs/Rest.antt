@@ -6,7 +6,8 @@ use lib.ListN.{length}
 use lib.Dec.{eqb, leb}
 use Rattle.slices.specs.Cells.{part}
 use Rattle.target.specs.Pick.{pick}
-use Rattle.target.specs.Place.{works}
+use Rattle.target.specs.Luns.{works}
+use Rattle.target.specs.Sizes.{pageSize}
 use Rattle.target.specs.declared.Geometry.{Geometry}
 use Rattle.target.specs.declared.Lun.{Lun}
 use Rattle.target.specs.declared.Target.{Target}
@@ -23,15 +24,15 @@ empty = record { source = source.Nothing; at = 0; count = 0 }
 
 -- rule 13 does not hold, of the record and the two buffers that are lent here
 unfoldable pub readable : Target → ℕ → ℕ → Bool
-readable t params registers = recordSound t && (eqb params 256 && eqb registers (t .geometry .luns * t .geometry .page))
+readable t params registers = recordSound t && (eqb params 256 && eqb registers (t .geometry .luns * pageSize (t .geometry)))
 
 -- the rest of the register from the next byte on; of the present copy of the parameter page: after a copy's last byte the next
 -- copy is the present one, after the third the part is empty; empty for the other outputs, with none, and while the LUN works
 abbrev pub unreadIn : Geometry → List Lun → Output → Unread
 unreadIn g luns output.Nothing = empty
 unreadIn g luns (output.Register l c) =
-    pick (works luns l || leb (g .page) (c .0)) empty
-    (record { source = source.Registers; at = l * g .page + c .0; count = g .page - c .0 })
+    pick (works luns l || leb (pageSize g) (c .0)) empty
+    (record { source = source.Registers; at = l * pageSize g + c .0; count = pageSize g - c .0 })
 unreadIn g luns (output.Parameters at) =
     pick (leb 768 at) empty (record { source = source.Parameters; at = at % 256; count = 256 - at % 256 })
 unreadIn g luns (output.Status l) = empty

@@ -4,7 +4,8 @@ use target::Geometry;
 use target::Luns;
 use target::Output;
 use target::Target;
-use target::place::works;
+use target::records::works;
+use target::sizes::page_size;
 ghost use mathlib.Core.Path.{_≡_};
 ghost use mathlib.Core.Bool.{true};
 ghost use Rattle.slices.specs.Cells.{part};
@@ -49,7 +50,7 @@ pub fn readable(t: Target, params: usize, registers: usize) -> bool
 {
     if record_sound(t) {
         let g = t.geometry;
-        (params == 256) & (registers == g.luns * g.page)
+        (params == 256) & (registers == g.luns * page_size(g))
     } else {
         false
     }
@@ -62,12 +63,13 @@ fn unread_in(g: Geometry, luns: Luns, o: Output) -> Unread
     match o {
         Output::Nothing => nothing(),
         Output::Register { lun, column } => {
+            let p = page_size(g);
             let there = Unread {
                 source: Source::Registers,
-                at: lun * g.page + column.0,
-                count: g.page - column.0,
+                at: lun * p + column.0,
+                count: p - column.0,
             };
-            pick_unread(works(luns, lun) | (g.page <= column.0), nothing(), there)
+            pick_unread(works(luns, lun) | (p <= column.0), nothing(), there)
         }
         Output::Parameters { at } => {
             let there = Unread {

@@ -10,23 +10,8 @@ enum-told c = search needs
 enum-told-2 : tie.Need-enum-told-2
 enum-told-2 c = search needs
 
-enum-told-3 : tie.Need-enum-told-3
-enum-told-3 c = search needs
-
-enum-told-4 : tie.Need-enum-told-4
-enum-told-4 c = search needs
-
-enum-told-5 : tie.Need-enum-told-5
-enum-told-5 c = search needs
-
-enum-told-6 : tie.Need-enum-told-6
-enum-told-6 c = search needs
-
-enum-told-7 : tie.Need-enum-told-7
-enum-told-7 c = search needs
-
-enum-known-s : tie.Need-enum-known-s
-enum-known-s c = search needs
+enum-known-k : tie.Need-enum-known-k
+enum-known-k c = search needs
 
 pick-bool-requires : tie.Need-pick-bool-requires
 pick-bool-requires c κs = search needs
@@ -38,46 +23,14 @@ returns-2 : tie.Need-returns-2
 returns-2 c = search needs
 
 returns-3 : tie.Need-returns-3
-returns-3 c = search needs
-
-returns-4 : tie.Need-returns-4
-returns-4 c = search needs
-
-returns-5 : tie.Need-returns-5
-returns-5 c = search needs
-
-returns-6 : tie.Need-returns-6
-returns-6 c = search needs
-
-returns-7 : tie.Need-returns-7
-returns-7 c = search needs
-
-returns-8 : tie.Need-returns-8
-returns-8 c =
-    let c2 = c .before .before in
+returns-3 c =
+    let c4 = c .before .before .before .before in
     rw (
       c .pick-bool .ensures,
-      c2 .s .given .1,
+      c4 .k .given .1,
     )
 
 pub clear-set-spec : {M : Type 1} → statement M
 clear-set-spec =
     tie.close
-    (tie.spec
-    enum-told
-    enum-told-2
-    enum-told-3
-    enum-told-4
-    enum-told-5
-    enum-told-6
-    enum-told-7
-    enum-known-s
-    pick-bool-requires
-    returns
-    returns-2
-    returns-3
-    returns-4
-    returns-5
-    returns-6
-    returns-7
-    returns-8)
+    (tie.spec enum-told enum-told-2 enum-known-k pick-bool-requires returns returns-2 returns-3)

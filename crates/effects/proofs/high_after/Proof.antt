@@ -1,6 +1,6 @@
 -- `effects::high_after` meets its contract.
 -- Assumes nothing.
-use Rattle.effects.specs.After.{highAfter}
+use Rattle.effects.specs.Effects.{highAfter}
 use borrow.Author.Needs.{needs}
 use Rattle.effects.proofs.high_after.Statement.{statement}
 use Rattle.effects.proofs.high_after.Tie as tie

@@ -1,57 +1,95 @@
 -- `effects::luns_after` meets its contract.
 -- Assumes nothing.
-use Rattle.effects.specs.After.{lunsAfter}
+use borrow.Author.Tests.{ne-eqb}
+use borrow.Author.Tests.{eq-eqb}
+use Rattle.effects.specs.Effects.{lunsAfter}
 use borrow.Author.Needs.{needs}
 use Rattle.effects.proofs.luns_after.Statement.{statement}
 use Rattle.effects.proofs.luns_after.Tie as tie
 
-cast-l : tie.Need-cast-l
-cast-l c = search needs
-
-finished-requires : tie.Need-finished-requires
-finished-requires c κs = search needs
-
-pick-luns-requires : tie.Need-pick-luns-requires
-pick-luns-requires c κs = search needs
-
-command-luns-requires : tie.Need-command-luns-requires
-command-luns-requires c κs = search needs
-
-pick-luns-requires-2 : tie.Need-pick-luns-requires-2
-pick-luns-requires-2 c κs = search needs
-
 is-reset-requires : tie.Need-is-reset-requires
 is-reset-requires c κs = search needs
 
-pick-luns-requires-3 : tie.Need-pick-luns-requires-3
-pick-luns-requires-3 c κs = search needs
+lun-ready-requires : tie.Need-lun-ready-requires
+lun-ready-requires c κs = search needs
 
 returns : tie.Need-returns
 unfolding lunsAfter
 returns c =
     let c1 = c .before in
     let c2 = c1 .before in
-    let c3 = c2 .before in
+    rw (
+      ← c2 .is-reset .ensures,
+      c1 .if1 .taken,
+      c .lun-ready .ensures,
+    )
+
+ending-requires : tie.Need-ending-requires
+ending-requires c κs = search needs
+
+ended-luns-requires : tie.Need-ended-luns-requires
+ended-luns-requires c κs = search needs
+
+returns-2 : tie.Need-returns-2
+unfolding lunsAfter
+returns-2 c =
+    let c1 = c .before in
+    let c2 = c1 .before in
+    let c4 = c2 .before .before in
+    let c5 = c4 .before in
+    rw (
+      ← c5 .is-reset .ensures,
+      c4 .if1 .left,
+      c .ended-luns .ensures,
+      c1 .ending .ensures,
+      eq-eqb _ _ (c2 .if2 .taken),
+    )
+
+cast-finished : tie.Need-cast-finished
+cast-finished c = search needs
+
+finished-requires : tie.Need-finished-requires
+finished-requires c κs = search needs
+
+returns-3 : tie.Need-returns-3
+unfolding lunsAfter
+returns-3 c =
+    let c1 = c .before in
+    let c3 = c1 .before .before in
     let c5 = c3 .before .before in
     let c6 = c5 .before in
     rw (
-      c .pick-luns3 .ensures,
-      c1 .is-reset .ensures,
-      c2 .pick-luns2 .ensures,
-      c3 .command-luns .ensures,
-      c5 .pick-luns .ensures,
-      c6 .finished .ensures,
+      ← c6 .is-reset .ensures,
+      c5 .if1 .left,
+      c .finished .ensures,
+      eq-eqb _ _ (c1 .if3 .taken),
+      ne-eqb _ _ (c3 .if2 .left),
+    )
+
+returns-4 : tie.Need-returns-4
+unfolding lunsAfter
+returns-4 c =
+    let c2 = c .before .before in
+    let c4 = c2 .before .before in
+    let c5 = c4 .before in
+    rw (
+      ← c5 .is-reset .ensures,
+      c4 .if1 .left,
+      ne-eqb _ _ (c .if3 .left),
+      ne-eqb _ _ (c2 .if2 .left),
     )
 
 pub luns-after-spec : {M : Type 1} → statement M
 luns-after-spec =
     tie.close
     (tie.spec
-    cast-l
-    finished-requires
-    pick-luns-requires
-    command-luns-requires
-    pick-luns-requires-2
     is-reset-requires
-    pick-luns-requires-3
-    returns)
+    lun-ready-requires
+    returns
+    ending-requires
+    ended-luns-requires
+    returns-2
+    cast-finished
+    finished-requires
+    returns-3
+    returns-4)

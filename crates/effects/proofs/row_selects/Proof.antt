@@ -10,32 +10,14 @@ enum-told c = search needs
 enum-told-2 : tie.Need-enum-told-2
 enum-told-2 c = search needs
 
-enum-known-s : tie.Need-enum-known-s
-enum-known-s c = search needs
-
-row-from-requires : tie.Need-row-from-requires
-row-from-requires c κs = search needs
+enum-known-k : tie.Need-enum-known-k
+enum-known-k c = search needs
 
 lun-of-requires : tie.Need-lun-of-requires
 lun-of-requires c κs = search needs
 
-pick-number-requires : tie.Need-pick-number-requires
-pick-number-requires c κs = search needs
-
 enum-told-3 : tie.Need-enum-told-3
 enum-told-3 c = search needs
-
-enum-told-4 : tie.Need-enum-told-4
-enum-told-4 c = search needs
-
-enum-told-5 : tie.Need-enum-told-5
-enum-told-5 c = search needs
-
-enum-told-6 : tie.Need-enum-told-6
-enum-told-6 c = search needs
-
-enum-told-7 : tie.Need-enum-told-7
-enum-told-7 c = search needs
 
 returns : tie.Need-returns
 returns c = search needs
@@ -45,30 +27,14 @@ returns-2 c = search needs
 
 returns-3 : tie.Need-returns-3
 returns-3 c =
-    let c1 = c .before in
-    let c2 = c1 .before in
-    let c4 = c2 .before .before in
+    let c3 = c .before .before .before in
     rw (
-      c .pick-number .ensures,
-      c1 .lun-of .ensures,
-      c2 .row-from .ensures,
-      c4 .s .given .1,
+      c .lun-of .ensures,
+      c3 .k .given .1,
     )
 
 returns-4 : tie.Need-returns-4
 returns-4 c = search needs
-
-returns-5 : tie.Need-returns-5
-returns-5 c = search needs
-
-returns-6 : tie.Need-returns-6
-returns-6 c = search needs
-
-returns-7 : tie.Need-returns-7
-returns-7 c = search needs
-
-returns-8 : tie.Need-returns-8
-returns-8 c = search needs
 
 pub row-selects-spec : {M : Type 1} → statement M
 row-selects-spec =
@@ -76,20 +42,10 @@ row-selects-spec =
     (tie.spec
     enum-told
     enum-told-2
-    enum-known-s
-    row-from-requires
+    enum-known-k
     lun-of-requires
-    pick-number-requires
     enum-told-3
-    enum-told-4
-    enum-told-5
-    enum-told-6
-    enum-told-7
     returns
     returns-2
     returns-3
-    returns-4
-    returns-5
-    returns-6
-    returns-7
-    returns-8)
+    returns-4)

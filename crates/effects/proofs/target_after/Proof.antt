@@ -1,6 +1,6 @@
 -- `effects::target_after` meets its contract.
 -- Assumes nothing.
-use Rattle.effects.specs.After.{targetAfter}
+use Rattle.effects.specs.Effects.{targetAfter}
 use borrow.Author.Needs.{needs}
 use Rattle.effects.proofs.target_after.Statement.{statement}
 use Rattle.effects.proofs.target_after.Tie as tie

@@ -1,6 +1,6 @@
 -- `effects::target_refused` meets its contract.
 -- Assumes nothing.
-use Rattle.effects.specs.After.{targetRefused}
+use Rattle.effects.specs.Effects.{targetRefused}
 use borrow.Author.Needs.{needs}
 use Rattle.effects.proofs.target_refused.Statement.{statement}
 use Rattle.effects.proofs.target_refused.Tie as tie

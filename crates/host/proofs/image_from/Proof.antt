@@ -22,18 +22,6 @@ mark-byte-requires-3 c κs = search needs
 mark-byte-requires-4 : tie.Need-mark-byte-requires-4
 mark-byte-requires-4 c κs = search needs
 
-mark-byte-requires-5 : tie.Need-mark-byte-requires-5
-mark-byte-requires-5 c κs = search needs
-
-mark-byte-requires-6 : tie.Need-mark-byte-requires-6
-mark-byte-requires-6 c κs = search needs
-
-mark-byte-requires-7 : tie.Need-mark-byte-requires-7
-mark-byte-requires-7 c κs = search needs
-
-mark-byte-requires-8 : tie.Need-mark-byte-requires-8
-mark-byte-requires-8 c κs = search needs
-
 returns : tie.Need-returns
 returns c =
     let c1 = c .before in
@@ -41,21 +29,13 @@ returns c =
     let c3 = c2 .before in
     let c4 = c3 .before in
     let c5 = c4 .before in
-    let c6 = c5 .before in
-    let c7 = c6 .before in
-    let c8 = c7 .before in
-    let c9 = c8 .before in
     rw (
-      c .mark-byte8 .ensures,
-      c1 .mark-byte7 .ensures,
-      c2 .mark-byte6 .ensures,
-      c3 .mark-byte5 .ensures,
-      c4 .mark-byte4 .ensures,
-      c5 .mark-byte3 .ensures,
-      c6 .mark-byte2 .ensures,
-      c7 .mark-byte .ensures,
-      c8 .of-fail .ensures,
-      c9 .of-working .ensures,
+      c .mark-byte4 .ensures,
+      c1 .mark-byte3 .ensures,
+      c2 .mark-byte2 .ensures,
+      c3 .mark-byte .ensures,
+      c4 .of-fail .ensures,
+      c5 .of-working .ensures,
     )
 
 pub image-from-spec : {M : Type 1} → statement M
@@ -68,8 +48,4 @@ image-from-spec =
     mark-byte-requires-2
     mark-byte-requires-3
     mark-byte-requires-4
-    mark-byte-requires-5
-    mark-byte-requires-6
-    mark-byte-requires-7
-    mark-byte-requires-8
     returns)

@@ -5,18 +5,6 @@ use borrow.Author.Needs.{needs}
 use Rattle.host.proofs.unpack.Statement.{statement}
 use Rattle.host.proofs.unpack.Tie as tie
 
-is-set-requires : tie.Need-is-set-requires
-is-set-requires c κs = search needs
-
-is-set-requires-2 : tie.Need-is-set-requires-2
-is-set-requires-2 c κs = search needs
-
-is-set-requires-3 : tie.Need-is-set-requires-3
-is-set-requires-3 c κs = search needs
-
-is-set-requires-4 : tie.Need-is-set-requires-4
-is-set-requires-4 c κs = search needs
-
 to-luns-requires : tie.Need-to-luns-requires
 to-luns-requires c κs = search needs
 
@@ -32,17 +20,17 @@ place-in-requires c κs = search needs
 to-output-requires : tie.Need-to-output-requires
 to-output-requires c κs = search needs
 
-is-set-requires-5 : tie.Need-is-set-requires-5
-is-set-requires-5 c κs = search needs
+is-set-requires : tie.Need-is-set-requires
+is-set-requires c κs = search needs
 
-is-set-requires-6 : tie.Need-is-set-requires-6
-is-set-requires-6 c κs = search needs
+is-set-requires-2 : tie.Need-is-set-requires-2
+is-set-requires-2 c κs = search needs
 
-is-set-requires-7 : tie.Need-is-set-requires-7
-is-set-requires-7 c κs = search needs
+is-set-requires-3 : tie.Need-is-set-requires-3
+is-set-requires-3 c κs = search needs
 
-is-set-requires-8 : tie.Need-is-set-requires-8
-is-set-requires-8 c κs = search needs
+is-set-requires-4 : tie.Need-is-set-requires-4
+is-set-requires-4 c κs = search needs
 
 returns : tie.Need-returns
 unfolding unpacked
@@ -55,41 +43,29 @@ returns c =
     let c6 = c5 .before in
     let c7 = c6 .before in
     let c8 = c7 .before in
-    let c11 = c8 .before .before .before in
-    let c12 = c11 .before in
-    let c13 = c12 .before in
-    let c14 = c13 .before in
     rw (
-      c .is-set8 .ensures,
-      c1 .is-set7 .ensures,
-      c2 .is-set6 .ensures,
-      c3 .is-set5 .ensures,
+      c .is-set4 .ensures,
+      c1 .is-set3 .ensures,
+      c2 .is-set2 .ensures,
+      c3 .is-set .ensures,
       c4 .to-output .ensures,
       c5 .place-in .ensures,
       c6 .to-sequence .ensures,
       c7 .cycles-in .ensures,
       c8 .to-luns .ensures,
-      c11 .is-set4 .ensures,
-      c12 .is-set3 .ensures,
-      c13 .is-set2 .ensures,
-      c14 .is-set .ensures,
     )
 
 pub unpack-spec : {M : Type 1} → statement M
 unpack-spec =
     tie.close
     (tie.spec
-    is-set-requires
-    is-set-requires-2
-    is-set-requires-3
-    is-set-requires-4
     to-luns-requires
     cycles-in-requires
     to-sequence-requires
     place-in-requires
     to-output-requires
-    is-set-requires-5
-    is-set-requires-6
-    is-set-requires-7
-    is-set-requires-8
+    is-set-requires
+    is-set-requires-2
+    is-set-requires-3
+    is-set-requires-4
     returns)

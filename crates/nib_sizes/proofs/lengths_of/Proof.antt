@@ -12,14 +12,26 @@ mul-flags c = omega (arith, blocks-all (limits (c .before .args .g) (c .before .
 mul-counts : tie.Need-mul-counts
 mul-counts c = omega (arith, pages-all (limits (c .before .before .args .g) (c .before .before .pre)))
 
-mul-t4 : tie.Need-mul-t4
-mul-t4 c = omega (arith, bytes-all (limits (c .before .before .before .args .g) (c .before .before .before .pre)))
+page-size-requires : tie.Need-page-size-requires
+page-size-requires c κs = search needs
 
 mul-t5 : tie.Need-mul-t5
-mul-t5 c = omega (arith, registers-all (limits (c .before .before .before .before .args .g) (c .before .before .before .before .pre)))
+mul-t5 c =
+    let start = c .before .before .before in
+    let most = bytes-all (limits (start .args .g) (start .pre)) in
+    rw (c .page-size .ensures) (omega (arith, most))
+
+mul-t6 : tie.Need-mul-t6
+mul-t6 c =
+    let start = c .before .before .before .before in
+    let most = registers-all (limits (start .args .g) (start .pre)) in
+    rw (c .before .page-size .ensures) (omega (arith, most))
 
 returns : tie.Need-returns
-returns c = search needs
+returns c =
+    let c1 = c .before in
+    rw (c1 .page-size .ensures)
 
 pub lengths-of-spec : {M : Type 1} → statement M
-lengths-of-spec = tie.close (tie.spec mul-flags mul-counts mul-t4 mul-t5 returns)
+lengths-of-spec =
+    tie.close (tie.spec mul-flags mul-counts page-size-requires mul-t5 mul-t6 returns)

@@ -10,13 +10,18 @@ use Rattle.power.proofs.geometry_of.Tie as tie
 data-bytes-requires : tie.Need-data-bytes-requires
 data-bytes-requires c κs = search needs
 
+cast-t3 : tie.Need-cast-t3
+cast-t3 c =
+    let f = limits _ (c .before .before .pre) in
+    omega (arith, f .data-max, c .data-bytes .ensures)
+
 spare-bytes-requires : tie.Need-spare-bytes-requires
 spare-bytes-requires c κs = search needs
 
-add-t4 : tie.Need-add-t4
-add-t4 c =
+cast-t5 : tie.Need-cast-t5
+cast-t5 c =
     let f = limits _ (c .before .before .before .pre) in
-    omega (arith, c .spare-bytes .ensures, c .before .data-bytes .ensures)
+    omega (arith, f .spare-max, c .spare-bytes .ensures)
 
 pages-a-block-requires : tie.Need-pages-a-block-requires
 pages-a-block-requires c κs = search needs
@@ -52,8 +57,9 @@ geometry-of-spec =
     tie.close
     (tie.spec
     data-bytes-requires
+    cast-t3
     spare-bytes-requires
-    add-t4
+    cast-t5
     pages-a-block-requires
     blocks-a-lun-requires
     lun-count-requires

@@ -8,23 +8,29 @@ use Rattle.power.proofs.powered_of.Tie as tie
 geometry-of-requires : tie.Need-geometry-of-requires
 geometry-of-requires c κs = search needs
 
-options-of-requires : tie.Need-options-of-requires
-options-of-requires c κs = search needs
+words-of-requires : tie.Need-words-of-requires
+words-of-requires c κs = search needs
 
 maker-id-requires : tie.Need-maker-id-requires
 maker-id-requires c κs = search needs
+
+lun-ready-requires : tie.Need-lun-ready-requires
+lun-ready-requires c κs = search needs
 
 returns : tie.Need-returns
 unfolding poweredOf
 returns c =
     let c1 = c .before in
     let c2 = c1 .before in
+    let c3 = c2 .before in
     rw (
-      c .maker-id .ensures,
-      c1 .options-of .ensures,
-      c2 .geometry-of .ensures,
+      c .lun-ready .ensures,
+      c1 .maker-id .ensures,
+      c2 .words-of .ensures,
+      c3 .geometry-of .ensures,
     )
 
 pub powered-of-spec : {M : Type 1} → statement M
 powered-of-spec =
-    tie.close (tie.spec geometry-of-requires options-of-requires maker-id-requires returns)
+    tie.close
+    (tie.spec geometry-of-requires words-of-requires maker-id-requires lun-ready-requires returns)

@@ -7,8 +7,8 @@ use borrow.Author.Needs.{needs}
 use Rattle.step.proofs.accept.Statement.{statement}
 use Rattle.step.proofs.accept.Tie as tie
 
-spoilt-requires : tie.Need-spoilt-requires
-spoilt-requires c κs =
+findings-requires : tie.Need-findings-requires
+findings-requires c κs =
     let ok = sound _ (c .before .before .before .before .before .before .before .before .pre .0) in
     (ok .limited, ok .sequence)
 
@@ -24,7 +24,7 @@ perform-requires c κs =
     let start = c3 .before .before .before .before .before .before .before .before .before .before .before .before in
     let a = start .args in
     let p = start .pre in
-    let ready = work-ready (a .t) (a .e) (a .counts .now) (a .flags .now) (p .0) (p .1 .0) (c3 .before .before .before .spoilt .result) (c3 .before .before .before .spoilt .ensures) in
+    let ready = work-ready (a .t) (a .e) (a .counts .now) (a .flags .now) (p .0) (p .1 .0) (c3 .before .before .before .findings .result) (c3 .before .before .before .findings .ensures) in
     (sound (a .t) (p .0) .limited, (rw (c3 .work-of .ensures) ready, p .1 .1))
 
 target-after-requires : tie.Need-target-after-requires
@@ -54,14 +54,14 @@ returns c =
       done .1 .1,
       c11 .work-of .ensures,
       c11 .before .reply-of .ensures,
-      c11 .before .before .before .spoilt .ensures,
+      c11 .before .before .before .findings .ensures,
     )
 
 pub accept-spec : {M : Type 1} → statement M
 accept-spec =
     tie.close
     (tie.spec
-    spoilt-requires
+    findings-requires
     reply-of-requires
     work-of-requires
     perform-requires

@@ -12,16 +12,21 @@ use Rattle.unread.proofs.readable.Tie as tie
 record-sound-requires : tie.Need-record-sound-requires
 record-sound-requires c κs = search needs
 
+page-size-requires : tie.Need-page-size-requires
+page-size-requires c κs = search needs
+
 mul-result : tie.Need-mul-result
 mul-result c =
-    let ok = sound _ (sym (c .before .before .before .record-sound .ensures) ∙ c .before .before .if1 .taken) in
-    omega (arith, registers-all (limits _ (ok .limited)))
+    let if1 = c .before .before .before in
+    let ok = sound _ (sym (if1 .before .record-sound .ensures) ∙ if1 .if1 .taken) in
+    rw (c .page-size .ensures) (omega (arith, registers-all (limits _ (ok .limited))))
 
 returns : tie.Need-returns
 unfolding readable
 returns c =
-    let ok = sym (c .before .before .before .record-sound .ensures) ∙ c .before .before .if1 .taken in
-    rw ok
+    let if1 = c .before .before .before .before in
+    let ok = sym (if1 .before .record-sound .ensures) ∙ if1 .if1 .taken in
+    rw (ok, c .before .page-size .ensures)
 
 returns-2 : tie.Need-returns-2
 unfolding readable
@@ -30,4 +35,4 @@ returns-2 c =
     rw bad
 
 pub readable-spec : {M : Type 1} → statement M
-readable-spec = tie.close (tie.spec record-sound-requires mul-result returns returns-2)
+readable-spec = tie.close (tie.spec record-sound-requires page-size-requires mul-result returns returns-2)

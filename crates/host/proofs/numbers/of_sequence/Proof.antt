@@ -54,10 +54,10 @@ returns-2 c =
 
 returns-3 : tie.Need-returns-3
 returns-3 c =
-    let c2 = c .before .before in
+    let c3 = c .before .before .before in
     rw (
       c .first-number2 .ensures,
-      c2 .s2 .given .1,
+      c3 .s2 .given .1,
     )
 
 returns-4 : tie.Need-returns-4
@@ -70,21 +70,21 @@ returns-4 c =
 
 returns-5 : tie.Need-returns-5
 returns-5 c =
-    let c2 = c .before .before in
+    let c4 = c .before .before .before .before in
     rw (
       c .first-number4 .ensures,
-      c2 .s4 .given .1,
+      c4 .s4 .given .1,
     )
 
 returns-6 : tie.Need-returns-6
 returns-6 c =
-    let c1 = c .before in
-    rw (c1 .s5 .given .1)
+    let c3 = c .before .before .before in
+    rw (c3 .s5 .given .1)
 
 returns-7 : tie.Need-returns-7
 returns-7 c =
-    let c1 = c .before in
-    rw (c1 .s6 .given .1)
+    let c2 = c .before .before in
+    rw (c2 .s6 .given .1)
 
 returns-8 : tie.Need-returns-8
 returns-8 c =

@@ -4,8 +4,8 @@ use borrow.Author.Needs.{needs}
 use Rattle.host.proofs.numbers.to_sequence.Statement.{statement}
 use Rattle.host.proofs.numbers.to_sequence.Tie as tie
 
-first-of-requires : tie.Need-first-of-requires
-first-of-requires c κs = search needs
+first-at-requires : tie.Need-first-at-requires
+first-at-requires c κs = search needs
 
 pick-sequence-requires : tie.Need-pick-sequence-requires
 pick-sequence-requires c κs = search needs
@@ -45,14 +45,14 @@ returns c =
       c4 .pick-sequence3 .ensures,
       c5 .pick-sequence2 .ensures,
       c6 .pick-sequence .ensures,
-      c7 .first-of .ensures,
+      c7 .first-at .ensures,
     )
 
 pub to-sequence-spec : {M : Type 1} → statement M
 to-sequence-spec =
     tie.close
     (tie.spec
-    first-of-requires
+    first-at-requires
     pick-sequence-requires
     pick-sequence-requires-2
     pick-sequence-requires-3

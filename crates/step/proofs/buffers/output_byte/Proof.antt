@@ -1,5 +1,6 @@
 -- `step::buffers::output_byte` meets its contract.
 -- Assumes nothing.
+use Rattle.target.specs.Sizes.{pageSize}
 use native.Mathlib.Omega.{arith}
 use Rattle.slices.proofs.Splice.{piece}
 use Rattle.target.proofs.Limits.{limits, registers-all}
@@ -15,6 +16,9 @@ enum-told c = search needs
 enum-known-o : tie.Need-enum-known-o
 enum-known-o c = search needs
 
+page-size-requires : tie.Need-page-size-requires
+page-size-requires c κs = search needs
+
 mul-byte-at : tie.Need-mul-byte-at
 mul-byte-at c =
     let known = c .before .before .o .given in
@@ -22,7 +26,7 @@ mul-byte-at c =
     let m = limits _ (start .pre .0) in
     let fine = rw (known .1) at (start .pre .1) in
     let k = register-place (start .args .t .geometry) (known .0 .0) (known .0 .1 .0) fine in
-    omega (arith, piece (start .args .t .geometry .page) (k .0), registers-all m, m .page-max, k .1)
+    rw (c .page-size .ensures) (omega (arith, piece (pageSize (start .args .t .geometry)) (k .0), registers-all m, m .page-max, k .1))
 
 add-byte-at : tie.Need-add-byte-at
 add-byte-at c =
@@ -31,7 +35,7 @@ add-byte-at c =
     let m = limits _ (start .pre .0) in
     let fine = rw (known .1) at (start .pre .1) in
     let k = register-place (start .args .t .geometry) (known .0 .0) (known .0 .1 .0) fine in
-    omega (arith, piece (start .args .t .geometry .page) (k .0), registers-all m, m .page-max, k .1)
+    rw (c .before .page-size .ensures) (omega (arith, piece (pageSize (start .args .t .geometry)) (k .0), registers-all m, m .page-max, k .1))
 
 byte-at-requires : tie.Need-byte-at-requires
 byte-at-requires c κs = search needs
@@ -83,6 +87,7 @@ returns-2 c =
     let c4 = c .before .before .before .before in
     rw (
       c .byte-at .ensures,
+      c .before .before .page-size .ensures,
       c4 .o .given .1,
     )
 
@@ -141,6 +146,7 @@ output-byte-spec =
     (tie.spec
     enum-told
     enum-known-o
+    page-size-requires
     mul-byte-at
     add-byte-at
     byte-at-requires

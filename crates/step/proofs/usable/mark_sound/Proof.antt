@@ -4,19 +4,19 @@ use borrow.Author.Needs.{needs}
 use Rattle.step.proofs.usable.mark_sound.Statement.{statement}
 use Rattle.step.proofs.usable.mark_sound.Tie as tie
 
-works-requires : tie.Need-works-requires
-works-requires c κs = search needs
+lun-at-requires : tie.Need-lun-at-requires
+lun-at-requires c κs = search needs
 
-failed-requires : tie.Need-failed-requires
-failed-requires c κs = search needs
+is-ready-requires : tie.Need-is-ready-requires
+is-ready-requires c κs = search needs
 
 returns : tie.Need-returns
 returns c =
     let c1 = c .before in
     rw (
-      c .failed .ensures,
-      c1 .works .ensures,
+      c .is-ready .ensures,
+      c1 .lun-at .ensures,
     )
 
 pub mark-sound-spec : {M : Type 1} → statement M
-mark-sound-spec = tie.close (tie.spec works-requires failed-requires returns)
+mark-sound-spec = tie.close (tie.spec lun-at-requires is-ready-requires returns)

@@ -10,6 +10,9 @@ enum-told c = search needs
 enum-known-o : tie.Need-enum-known-o
 enum-known-o c = search needs
 
+page-size-requires : tie.Need-page-size-requires
+page-size-requires c κs = search needs
+
 enum-known-o-2 : tie.Need-enum-known-o-2
 enum-known-o-2 c = search needs
 
@@ -30,8 +33,12 @@ returns c = search needs
 
 returns-2 : tie.Need-returns-2
 returns-2 c =
-    let c4 = c .before .before .before .before in
-    rw (c4 .o .given .1)
+    let c1 = c .before in
+    let c4 = c1 .before .before .before in
+    rw (
+      c1 .page-size .ensures,
+      c4 .o .given .1,
+    )
 
 returns-3 : tie.Need-returns-3
 returns-3 c =
@@ -64,6 +71,7 @@ output-sound-spec =
     (tie.spec
     enum-told
     enum-known-o
+    page-size-requires
     enum-known-o-2
     enum-known-o-3
     enum-known-o-4

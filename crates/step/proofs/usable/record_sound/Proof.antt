@@ -8,6 +8,9 @@ use Rattle.step.proofs.usable.record_sound.Tie as tie
 in-limits-requires : tie.Need-in-limits-requires
 in-limits-requires c κs = search needs
 
+words-sound-requires : tie.Need-words-sound-requires
+words-sound-requires c κs = search needs
+
 marks-sound-requires : tie.Need-marks-sound-requires
 marks-sound-requires c κs = search needs
 
@@ -22,12 +25,14 @@ unfolding recordSound
 returns c =
     let c1 = c .before in
     let c2 = c1 .before in
-    let c6 = c2 .before .before .before .before in
+    let c5 = c2 .before .before .before in
+    let c7 = c5 .before .before in
     rw (
       c .output-sound .ensures,
       c1 .sequence-sound .ensures,
       c2 .marks-sound .ensures,
-      c6 .in-limits .ensures,
+      c5 .words-sound .ensures,
+      c7 .in-limits .ensures,
     )
 
 pub record-sound-spec : {M : Type 1} → statement M
@@ -35,6 +40,7 @@ record-sound-spec =
     tie.close
     (tie.spec
     in-limits-requires
+    words-sound-requires
     marks-sound-requires
     sequence-sound-requires
     output-sound-requires

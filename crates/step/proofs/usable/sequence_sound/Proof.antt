@@ -16,11 +16,8 @@ takes-column-requires c κs = search needs
 enum-known-s-2 : tie.Need-enum-known-s-2
 enum-known-s-2 c = search needs
 
-takes-row-requires : tie.Need-takes-row-requires
-takes-row-requires c κs = search needs
-
-column-held-requires : tie.Need-column-held-requires
-column-held-requires c κs = search needs
+rows-sound-requires : tie.Need-rows-sound-requires
+rows-sound-requires c κs = search needs
 
 enum-known-s-3 : tie.Need-enum-known-s-3
 enum-known-s-3 c = search needs
@@ -31,20 +28,20 @@ cycles-of-requires c κs = search needs
 enum-known-s-4 : tie.Need-enum-known-s-4
 enum-known-s-4 c = search needs
 
-due-sound-requires : tie.Need-due-sound-requires
-due-sound-requires c κs = search needs
+wait-sound-requires : tie.Need-wait-sound-requires
+wait-sound-requires c κs = search needs
 
 enum-known-s-5 : tie.Need-enum-known-s-5
 enum-known-s-5 c = search needs
 
-row-exists-requires : tie.Need-row-exists-requires
-row-exists-requires c κs = search needs
+fill-sound-requires : tie.Need-fill-sound-requires
+fill-sound-requires c κs = search needs
 
 enum-known-s-6 : tie.Need-enum-known-s-6
 enum-known-s-6 c = search needs
 
-row-exists-requires-2 : tie.Need-row-exists-requires-2
-row-exists-requires-2 c κs = search needs
+row-exists-requires : tie.Need-row-exists-requires
+row-exists-requires c κs = search needs
 
 enum-known-s-7 : tie.Need-enum-known-s-7
 enum-known-s-7 c = search needs
@@ -54,20 +51,19 @@ returns c = search needs
 
 returns-2 : tie.Need-returns-2
 returns-2 c =
-    let c2 = c .before .before in
+    let c1 = c .before in
+    let c3 = c1 .before .before in
     rw (
-      c .takes-column .ensures,
-      c2 .s .given .1,
+      c1 .takes-column .ensures,
+      c3 .s .given .1,
     )
 
 returns-3 : tie.Need-returns-3
 returns-3 c =
-    let c1 = c .before in
-    let c3 = c1 .before .before in
+    let c2 = c .before .before in
     rw (
-      c .column-held .ensures,
-      c1 .takes-row .ensures,
-      c3 .s2 .given .1,
+      c .rows-sound .ensures,
+      c2 .s2 .given .1,
     )
 
 returns-4 : tie.Need-returns-4
@@ -82,30 +78,30 @@ returns-5 : tie.Need-returns-5
 returns-5 c =
     let c2 = c .before .before in
     rw (
-      c .due-sound .ensures,
+      c .wait-sound .ensures,
       c2 .s4 .given .1,
     )
 
 returns-6 : tie.Need-returns-6
 returns-6 c =
-    let c4 = c .before .before .before .before in
+    let c2 = c .before .before in
     rw (
-      c .row-exists .ensures,
-      c4 .s5 .given .1,
+      c .fill-sound .ensures,
+      c2 .s5 .given .1,
     )
 
 returns-7 : tie.Need-returns-7
 returns-7 c =
-    let c2 = c .before .before in
+    let c4 = c .before .before .before .before in
     rw (
-      c .row-exists2 .ensures,
-      c2 .s6 .given .1,
+      c .row-exists .ensures,
+      c4 .s6 .given .1,
     )
 
 returns-8 : tie.Need-returns-8
 returns-8 c =
-    let c1 = c .before in
-    rw (c1 .s7 .given .1)
+    let c4 = c .before .before .before .before in
+    rw (c4 .s7 .given .1)
 
 pub sequence-sound-spec : {M : Type 1} → statement M
 sequence-sound-spec =
@@ -115,16 +111,15 @@ sequence-sound-spec =
     enum-known-s
     takes-column-requires
     enum-known-s-2
-    takes-row-requires
-    column-held-requires
+    rows-sound-requires
     enum-known-s-3
     cycles-of-requires
     enum-known-s-4
-    due-sound-requires
+    wait-sound-requires
     enum-known-s-5
-    row-exists-requires
+    fill-sound-requires
     enum-known-s-6
-    row-exists-requires-2
+    row-exists-requires
     enum-known-s-7
     returns
     returns-2

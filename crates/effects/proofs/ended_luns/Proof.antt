@@ -1,0 +1,47 @@
+-- `effects::ended_luns` meets its contract.
+-- Assumes nothing.
+use borrow.Author.Needs.{needs}
+use Rattle.effects.proofs.ended_luns.Statement.{statement}
+use Rattle.effects.proofs.ended_luns.Tie as tie
+
+enum-told : tie.Need-enum-told
+enum-told c = search needs
+
+enum-known-k : tie.Need-enum-known-k
+enum-known-k c = search needs
+
+second-row-requires : tie.Need-second-row-requires
+second-row-requires c κs = search needs
+
+begun-requires : tie.Need-begun-requires
+begun-requires c κs = search needs
+
+pick-luns-requires : tie.Need-pick-luns-requires
+pick-luns-requires c κs = search needs
+
+returns : tie.Need-returns
+returns c = search needs
+
+returns-2 : tie.Need-returns-2
+returns-2 c =
+    let c1 = c .before in
+    let c3 = c1 .before .before in
+    let c6 = c3 .before .before .before in
+    rw (
+      c .pick-luns .ensures,
+      c1 .begun .ensures,
+      c3 .second-row .ensures,
+      c6 .k .given .1,
+    )
+
+pub ended-luns-spec : {M : Type 1} → statement M
+ended-luns-spec =
+    tie.close
+    (tie.spec
+    enum-told
+    enum-known-k
+    second-row-requires
+    begun-requires
+    pick-luns-requires
+    returns
+    returns-2)

@@ -1,0 +1,22 @@
+-- `effects::outputs::ended_lun` meets its contract.
+-- Assumes nothing.
+use borrow.Author.Needs.{needs}
+use Rattle.effects.proofs.outputs.ended_lun.Statement.{statement}
+use Rattle.effects.proofs.outputs.ended_lun.Tie as tie
+
+lun-of-requires : tie.Need-lun-of-requires
+lun-of-requires c κs = search needs
+
+pick-number-requires : tie.Need-pick-number-requires
+pick-number-requires c κs = search needs
+
+returns : tie.Need-returns
+returns c =
+    let c1 = c .before in
+    rw (
+      c .pick-number .ensures,
+      c1 .lun-of .ensures,
+    )
+
+pub ended-lun-spec : {M : Type 1} → statement M
+ended-lun-spec = tie.close (tie.spec lun-of-requires pick-number-requires returns)

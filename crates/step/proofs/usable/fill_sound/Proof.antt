@@ -1,0 +1,22 @@
+-- `step::usable::fill_sound` meets its contract.
+-- Assumes nothing.
+use borrow.Author.Needs.{needs}
+use Rattle.step.proofs.usable.fill_sound.Statement.{statement}
+use Rattle.step.proofs.usable.fill_sound.Tie as tie
+
+page-size-requires : tie.Need-page-size-requires
+page-size-requires c κs = search needs
+
+row-exists-requires : tie.Need-row-exists-requires
+row-exists-requires c κs = search needs
+
+returns : tie.Need-returns
+returns c =
+    let c2 = c .before .before in
+    rw (
+      c .row-exists .ensures,
+      c2 .page-size .ensures,
+    )
+
+pub fill-sound-spec : {M : Type 1} → statement M
+fill-sound-spec = tie.close (tie.spec page-size-requires row-exists-requires returns)

@@ -1,0 +1,154 @@
+-- What the views of a sound sequence hold: the row that an address cycle completes, what takes data, what a second command ends.
+--     row-named     a row that a command takes names a LUN that exists
+--     completes     a row that an address cycle completes belongs to a command that takes one
+--     taker-sound   what takes data is sound
+--     ends          a second command has a column within the page, and the row that it needs
+-- Assumes nothing.
+use mathlib.Core.Path.{_≡_, refl, sym, ap}
+use mathlib.Core.Bool.{Bool, true, false, _&&_, _||_, not, false≢true}
+use Prim.Native.Nat.{ℕ, _≤_, _<_}
+use native.Mathlib.Omega.{arith}
+use lib.Dec.{eqb, ltb, leb}
+use borrow.Author.Tests.{eqb-true, ltb-true, leb-true}
+use Rattle.target.specs.Pick.{pick}
+use Rattle.target.specs.Address.{lunOf, rowExists}
+use Rattle.target.specs.Sizes.{pageSize}
+use Rattle.target.specs.Commands.{looksOf, endOf, takesColumn, takesRow, waitsSecond, secondOf, secondRow}
+use Rattle.target.specs.Views.{completed, taking, endedWith, ending}
+use Rattle.target.specs.declared.Column.{Column}
+use Rattle.target.specs.declared.Row.{Row}
+use Rattle.target.specs.declared.Geometry.{Geometry}
+use Rattle.target.specs.declared.First.{First}
+use Rattle.target.specs.declared.Wait.{Wait}
+use Rattle.target.specs.declared.Fill.{Fill}
+use Rattle.target.specs.declared.Sequence.{Sequence}
+use Rattle.target.specs.declared.Sequence.the-variants.{Idle, Columns, Rows, Single, Due, Filling, Moving, Setting}
+use Rattle.target.specs.declared.commands.Looks.{Looks}
+use Rattle.target.specs.declared.commands.Looks.the-variants as looks
+use Rattle.target.specs.declared.commands.SecondFound.{SecondFound}
+use Rattle.target.specs.declared.commands.SecondFound.the-variants as second
+use Rattle.target.specs.declared.views.Given.{Given}
+use Rattle.target.specs.declared.views.Given.the-variants as given
+use Rattle.target.specs.declared.views.Taker.{Taker}
+use Rattle.target.specs.declared.views.Taker.the-variants as taker
+use Rattle.target.specs.declared.views.Ended.{Ended}
+use Rattle.target.specs.declared.views.Ender.{Ender}
+use Rattle.target.specs.declared.views.Ender.the-variants as ender
+use Rattle.target.proofs.Both.{both, both3}
+use Rattle.rules.specs.Rules.{exists, rowFits}
+use Rattle.effects.specs.Effects.{isMove}
+use Rattle.step.specs.Usable.{columnHeld, rowHeld, sequenceSound}
+use Rattle.step.proofs.Places.{lun-below, block-there, row-lun}
+use Rattle.thm_kept.proofs.Choice.{by-pick, opposite}
+use Rattle.thm_kept.proofs.Commands.{looksAtLun, looksAtPage, row-looks, starts-rowed, never-moves}
+
+module _ (g : Geometry) where
+  -- Columns and rows that are held.
+
+  -- a column is below P, or 0
+  pub column-most : (f : First) (c : Column) → columnHeld g f c ≡ true → c .0 ≤ pageSize g
+  column-most f c h = by (takesColumn f) h
+    where
+      by : (b : Bool) → pick b (ltb (c .0) (pageSize g)) (eqb (c .0) 0) ≡ true → c .0 ≤ pageSize g
+      by true k = omega (arith, ltb-true (c .0) (pageSize g) k)
+      by false k = omega (arith, eqb-true (c .0) 0 k)
+
+  -- a row that is looked at names a LUN, and a page, that exists
+  lun-looked : (l : Looks) (r : Row) → looksAtLun l ≡ true → exists g l r ≡ true → lunOf g r < g .luns
+  lun-looked looks.Nothing r p h = absurd (false≢true p)
+  lun-looked looks.Lun r p h = lun-below g r h
+  lun-looked looks.Block r p h = block-there g r h .lun
+  lun-looked looks.Page r p h = row-lun g r h
+
+  pub page-looked : (l : Looks) (r : Row) → looksAtPage l ≡ true → exists g l r ≡ true → rowExists g r ≡ true
+  page-looked looks.Nothing r p h = absurd (false≢true p)
+  page-looked looks.Lun r p h = absurd (false≢true p)
+  page-looked looks.Block r p h = absurd (false≢true p)
+  page-looked looks.Page r p h = h
+
+  pub row-named : (f : First) (r : Row) → takesRow f ≡ true → rowFits g f r ≡ true → lunOf g r < g .luns
+  row-named f r p h = lun-looked (looksOf f) r (row-looks f p) h
+
+  -- What an address cycle completes.
+
+  -- a whole row belongs to a command that takes one
+  abbrev pub Completes : Given → Type 0
+  Completes given.Nothing = Unit
+  Completes (given.Column k) = Unit
+  Completes (given.Row k) = takesRow (k .first) ≡ true
+  Completes (given.Single k) = Unit
+
+  pub completes : (s : Sequence) (v : ℕ) → sequenceSound g s ≡ true → Completes (completed s v)
+  completes Idle v h = tt
+  completes (Columns k) v h = by-pick Completes (eqb (k .got) 1) _ given.Nothing (λ _. tt) (λ _. tt)
+  completes (Rows k) v h =
+      by-pick Completes (eqb (k .got) 2) _ given.Nothing
+      (λ _. both3 (takesRow (k .first)) (ltb (k .got) 3) (columnHeld g (k .first) (k .column)) h .0)
+      (λ _. tt)
+  completes (Single f) v h = tt
+  completes (Due k) v h = tt
+  completes (Filling k) v h = tt
+  completes (Moving k) v h = by-pick Completes (eqb (k .got) 1) _ given.Nothing (λ _. tt) (λ _. tt)
+  completes (Setting k) v h = tt
+
+  -- What takes data.
+
+  abbrev pub takerSound : Taker → Bool
+  takerSound taker.Nothing = true
+  takerSound (taker.Program k) = sequenceSound g (Filling k)
+  takerSound (taker.Feature k) = sequenceSound g (Setting k)
+
+  pub taker-sound : (s : Sequence) → sequenceSound g s ≡ true → takerSound (taking s) ≡ true
+  taker-sound Idle h = refl
+  taker-sound (Columns k) h = refl
+  taker-sound (Rows k) h = refl
+  taker-sound (Single f) h = refl
+  taker-sound (Due k) h = refl
+  taker-sound (Filling k) h = h
+  taker-sound (Moving k) h = refl
+  taker-sound (Setting k) h = h
+
+  -- What a second command ends.
+
+  pub record Ends (k : Ended) : Type 0 where
+    pub column : k .column .0 ≤ pageSize g
+    pub row : k .rowed ≡ true → lunOf g (k .row) < g .luns
+    pub starts : secondRow (k .second) .starts ≡ true → lunOf g (k .row) < g .luns
+    pub moves : isMove (secondRow (k .second) .act) ≡ true → rowExists g (k .row) ≡ true
+
+  abbrev pub Ending : Ender → Type 0
+  Ending ender.Nothing = Unit
+  Ending (ender.By k) = Ends k
+
+  -- the second command that a first one waits for
+  due-ends : (k : Wait) → sequenceSound g (Due k) ≡ true → (found : SecondFound) → secondOf (endOf (k .first)) ≡ found → Ending (endedWith found (k .column) (k .row) (takesRow (k .first)))
+  due-ends k h second.Nothing told = tt
+  due-ends k h (second.Found s) told =
+      let f = k .first in
+      let p = both3 (waitsSecond f) (columnHeld g f (k .column)) (rowHeld g f (k .row)) h in
+      let named : takesRow f ≡ true → lunOf g (k .row) < g .luns = λ is. row-named f (k .row) is (rw is at p .2) in
+      record {
+        column = column-most f (k .column) (p .1);
+        row = named;
+        starts = λ is. named (starts-rowed f (p .0) s told is);
+        moves = λ is. absurd (opposite (isMove (secondRow s .act)) is (never-moves f (p .0) s told));
+      }
+
+  -- 10h and 85h inside a program
+  filling-ends : (k : Fill) → sequenceSound g (Filling k) ≡ true → (found : SecondFound) → Ending (endedWith found (k .at) (k .row) true)
+  filling-ends k h second.Nothing = tt
+  filling-ends k h (second.Found s) =
+      let p = both (leb (k .at .0) (pageSize g)) (rowExists g (k .row)) h in
+      let named = row-lun g (k .row) (p .1) in
+      record { column = leb-true _ _ (p .0); row = λ _. named; starts = λ _. named; moves = λ _. p .1 }
+
+  pub ends : (s : Sequence) (v : ℕ) → sequenceSound g s ≡ true → Ending (ending s v)
+  ends Idle v h = tt
+  ends (Columns k) v h = tt
+  ends (Rows k) v h = tt
+  ends (Single f) v h = tt
+  ends (Due k) v h =
+      by-pick Ending (eqb v (endOf (k .first))) _ _ (λ is. due-ends k h (secondOf v) (ap secondOf (sym (eqb-true v (endOf (k .first)) is)))) (λ _. tt)
+  ends (Filling k) v h = by-pick Ending (eqb v 0x10 || eqb v 0x85) _ _ (λ _. filling-ends k h (secondOf v)) (λ _. tt)
+  ends (Moving k) v h = tt
+  ends (Setting k) v h = tt

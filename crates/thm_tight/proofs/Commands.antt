@@ -1,0 +1,88 @@
+-- Laws of the command list that the ways go by. Each is one test, computed at every first command of the list.
+--     fresh        a first command is accepted after FFh by a part that offers everything
+--     named        its byte names it
+--     no-output    one that takes addresses shows nothing before them
+--     waits-some   one that waits for a second command takes a column or a row
+-- Assumes nothing.
+use mathlib.Core.Path.{_≡_, refl}
+use mathlib.Core.Bool.{Bool, true, false, _&&_, _||_, not, false≢true}
+use Prim.Native.Nat.{ℕ}
+use lib.Dec.{eqb, leb}
+use Rattle.target.specs.Pick.{pick}
+use Rattle.target.specs.Words.{bitOf}
+use Rattle.target.specs.Commands.{rowOf, byteOf, cyclesOf, thenOf, takesColumn, takesRow, isSecond, waitsSecond, firstOf, offered, secondRow, classOf, isFirst, isKnown}
+use Rattle.target.specs.declared.Words.{Words}
+use Rattle.target.specs.declared.First.{First}
+use Rattle.target.specs.declared.First.the-variants.{Read, ChangeColumn, ChangeColumnEnhanced, Erase, Status, StatusEnhanced, Program, ReadId, ParameterPage, GetFeatures, SetFeatures}
+use Rattle.target.specs.declared.Output.{Output}
+use Rattle.target.specs.declared.Output.the-variants as output
+use Rattle.target.specs.declared.commands.Then.{Then}
+use Rattle.target.specs.declared.commands.Then.the-variants as then
+use Rattle.target.specs.declared.commands.FirstFound.{FirstFound}
+use Rattle.target.specs.declared.commands.FirstFound.the-variants as first
+use Rattle.target.proofs.Both.{both5}
+use Rattle.target.proofs.Firsts.{each-first}
+use Rattle.effects.specs.Effects.{firstOutput, shown}
+
+-- every bit but that of the 16-bit bus
+abbrev pub every : Words
+every = record { features = 0xfffe; optional = 0xffff }
+
+-- a first command after FFh
+fresh-test : (f : First) → (isKnown (classOf (byteOf f)) && offered every (byteOf f) && isFirst (classOf (byteOf f)) && not (eqb (byteOf f) 0xff) && leb (byteOf f) 255) ≡ true
+unfolding rowOf firstOf offered secondRow classOf bitOf
+fresh-test f = each-first (λ (x : First). isKnown (classOf (byteOf x)) && offered every (byteOf x) && isFirst (classOf (byteOf x)) && not (eqb (byteOf x) 0xff) && leb (byteOf x) 255) refl f
+
+pub fresh : (f : First) → (isKnown (classOf (byteOf f)) ≡ true) × (offered every (byteOf f) ≡ true) × (isFirst (classOf (byteOf f)) ≡ true) × (not (eqb (byteOf f) 0xff) ≡ true) × (leb (byteOf f) 255 ≡ true)
+fresh f = both5 (isKnown (classOf (byteOf f))) (offered every (byteOf f)) (isFirst (classOf (byteOf f))) (not (eqb (byteOf f) 0xff)) (leb (byteOf f) 255) (fresh-test f)
+
+pub named : (f : First) → firstOf (byteOf f) ≡ first.Found f
+unfolding rowOf firstOf
+named Read = refl
+named ChangeColumn = refl
+named ChangeColumnEnhanced = refl
+named Erase = refl
+named Status = refl
+named StatusEnhanced = refl
+named Program = refl
+named ReadId = refl
+named ParameterPage = refl
+named GetFeatures = refl
+named SetFeatures = refl
+
+-- where a is so, b is
+modus : (a b : Bool) → (not a || b) ≡ true → a ≡ true → b ≡ true
+modus true b h k = h
+modus false b h k = absurd (false≢true k)
+
+-- a command with addresses
+abbrev pub addresses : First → Bool
+addresses f = takesColumn f || takesRow f || eqb (cyclesOf f) 1
+
+silent-test : (f : First) → (not (addresses f) || not (eqb (cyclesOf f) 0)) ≡ true
+unfolding rowOf
+silent-test f = each-first (λ (x : First). not (addresses x) || not (eqb (cyclesOf x) 0)) refl f
+
+pub no-output : (f : First) (selected : ℕ) → addresses f ≡ true → firstOutput selected (first.Found f) ≡ output.Nothing
+no-output f selected h = by (eqb (cyclesOf f) 0) (modus (addresses f) (not (eqb (cyclesOf f) 0)) (silent-test f) h)
+  where
+    by : (b : Bool) → not b ≡ true → pick b (shown (thenOf f) selected 0 output.Nothing) output.Nothing ≡ output.Nothing
+    by true k = absurd (false≢true k)
+    by false k = refl
+
+waits-test : (f : First) → (not (waitsSecond f) || (takesColumn f || takesRow f)) ≡ true
+unfolding rowOf
+waits-test f = each-first (λ (x : First). not (waitsSecond x) || (takesColumn x || takesRow x)) refl f
+
+pub waits-some : (f : First) → waitsSecond f ≡ true → (takesColumn f || takesRow f) ≡ true
+waits-some f = modus (waitsSecond f) (takesColumn f || takesRow f) (waits-test f)
+
+-- what follows a command that waits for a second one
+pub waits-then : (next : Then) → isSecond next ≡ true → next ≡ then.Second
+waits-then then.Second h = refl
+waits-then then.Data h = absurd (false≢true h)
+waits-then then.FeatureIn h = absurd (false≢true h)
+waits-then then.Status h = absurd (false≢true h)
+waits-then then.Id h = absurd (false≢true h)
+waits-then then.ParameterPage h = absurd (false≢true h)
+waits-then then.FeatureOut h = absurd (false≢true h)
