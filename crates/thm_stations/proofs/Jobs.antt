@@ -45,6 +45,9 @@ pub record Opens (v : ℕ) (f : First) : Type 0 where
   pub is-aimed : aimed f ≡ true
   pub rowed : takesRow f ≡ true
 
+pub opens : {v : ℕ} {f : First} → firstOf v ≡ first.Found f → eqb v 0xff ≡ false → aimed f ≡ true → takesRow f ≡ true → Opens v f
+opens found no-reset is-aimed rowed = record { found = found; no-reset = no-reset; is-aimed = is-aimed; rowed = rowed }
+
 abbrev pub isMoved : SecondFound → Bool
 isMoved second.Nothing = false
 isMoved (second.Found s) = isMove (secondRow s .act)
@@ -54,6 +57,9 @@ pub record Closes (v : ℕ) : Type 0 where
   pub is-plain : plain v ≡ true
   pub not-first : takesCommand Idle v ≡ false
   pub no-move : isMoved (secondOf v) ≡ false
+
+pub closes : {v : ℕ} → plain v ≡ true → takesCommand Idle v ≡ false → isMoved (secondOf v) ≡ false → Closes v
+closes is-plain not-first no-move = record { is-plain = is-plain; not-first = not-first; no-move = no-move }
 
 none-of : (a : Bool) → (a && false) ≡ false
 none-of true = refl
@@ -228,53 +234,43 @@ module _ (g : Geometry) where
       → Course g (lunOf g r) (replicate n dataOut) (followed (thenOf f) f c r) (shown (thenOf f) (lunOf g r) 0 output.Nothing)
   status-follows f c r n then = rw then (outs-course (lunOf g r) n (output.Status (lunOf g r)) (status-of (lunOf g r)))
 
--- The commands of the jobs.
-open-read : Opens 0x00 Read
-unfolding firstOf rowOf
-open-read = record { found = refl; no-reset = refl; is-aimed = refl; rowed = refl }
+  -- The jobs, by the commands that open and close them.
 
-open-output : Opens 0x06 ChangeColumnEnhanced
-unfolding firstOf rowOf
-open-output = record { found = refl; no-reset = refl; is-aimed = refl; rowed = refl }
+  -- a command with column and row, its second command, and data out
+  pub five-second : (v last : ℕ) (f : First) → Opens v f → takesColumn f ≡ true → thenOf f ≡ then.Second → Closes last
+      → (c : ColumnBytes) (r : RowBytes) (n : ℕ) {d e : Decoder} → Quiet d → Quiet e
+      → Alike g (lunOf g (wholeRow r)) (command v ∷ two c (three r (command last ∷ replicate n dataOut))) d e
+  five-second v last f k column then z c r n p q =
+      five v f k r (command last ∷ replicate n dataOut) p q (second-spared (lunOf g (wholeRow r)) last n z) column c
+      (second-follows f (columnFrom (c .low) (c .high)) (wholeRow r) last n then (k .rowed) z)
 
-open-program : Opens 0x80 Program
-unfolding firstOf rowOf
-open-program = record { found = refl; no-reset = refl; is-aimed = refl; rowed = refl }
+  -- a command with a row alone, and its second command
+  pub three-second : (v last : ℕ) (f : First) → Opens v f → takesColumn f ≡ false → thenOf f ≡ then.Second → Closes last
+      → (r : RowBytes) {d e : Decoder} → Quiet d → Quiet e → Alike g (lunOf g (wholeRow r)) (command v ∷ three r (command last ∷ [])) d e
+  three-second v last f k column then z r p q =
+      three-only v f k r (command last ∷ []) p q (second-spared (lunOf g (wholeRow r)) last 0 z) column
+      (second-follows f (record { 0 = 0 }) (wholeRow r) last 0 then (k .rowed) z)
 
-open-erase : Opens 0x60 Erase
-unfolding firstOf rowOf
-open-erase = record { found = refl; no-reset = refl; is-aimed = refl; rowed = refl }
+  -- a program: column and row, data and moves, its last command
+  pub five-data : (v last : ℕ) (f : First) → Opens v f → takesColumn f ≡ true → thenOf f ≡ then.Data → Closes last
+      → (c : ColumnBytes) (r : RowBytes) (ps : List Piece) {d e : Decoder} → Quiet d → Quiet e
+      → Alike g (lunOf g (wholeRow r)) (command v ∷ two c (three r (pieces last ps))) d e
+  five-data v last f k column then z c r ps p q =
+      five v f k r (pieces last ps) p q (pieces-spared (lunOf g (wholeRow r)) last z ps) column c
+      (data-follows f (columnFrom (c .low) (c .high)) (wholeRow r) last ps then z)
 
-open-status : Opens 0x78 StatusEnhanced
-unfolding firstOf rowOf
-open-status = record { found = refl; no-reset = refl; is-aimed = refl; rowed = refl }
+  -- a status: a row, and data out
+  pub three-status : (v : ℕ) (f : First) → Opens v f → takesColumn f ≡ false → thenOf f ≡ then.Status
+      → (r : RowBytes) (n : ℕ) {d e : Decoder} → Quiet d → Quiet e → Alike g (lunOf g (wholeRow r)) (command v ∷ three r (replicate n dataOut)) d e
+  three-status v f k column then r n p q =
+      three-only v f k r (replicate n dataOut) p q (outs-spared (lunOf g (wholeRow r)) n) column
+      (status-follows f (record { 0 = 0 }) (wholeRow r) n then)
 
-close-read : Closes 0x30
-unfolding firstOf secondOf secondRow rowOf classOf
-close-read = record { is-plain = refl; not-first = refl; no-move = refl }
-
-close-output : Closes 0xe0
-unfolding firstOf secondOf secondRow rowOf classOf
-close-output = record { is-plain = refl; not-first = refl; no-move = refl }
-
-close-program : Closes 0x10
-unfolding firstOf secondOf secondRow rowOf classOf
-close-program = record { is-plain = refl; not-first = refl; no-move = refl }
-
-close-erase : Closes 0xd0
-unfolding firstOf secondOf secondRow rowOf classOf
-close-erase = record { is-plain = refl; not-first = refl; no-move = refl }
-
+-- each job's commands have these attributes
 pub job-alike : (g : Geometry) (j : Job) {d e : Decoder} → Quiet d → Quiet e → Alike g (lunNamed g j) (cycles j) d e
-unfolding cycles rowOf
-job-alike g (read c r) p q =
-    five g _ Read open-read r _ p q (second-spared g _ 0x30 0 close-read) refl c (second-follows g Read _ (wholeRow r) 0x30 0 refl refl close-read)
-job-alike g (readOut c r n) p q =
-    five g _ ChangeColumnEnhanced open-output r _ p q (second-spared g _ 0xe0 n close-output) refl c
-    (second-follows g ChangeColumnEnhanced _ (wholeRow r) 0xe0 n refl refl close-output)
-job-alike g (program c r ps) p q =
-    five g _ Program open-program r _ p q (pieces-spared g _ 0x10 close-program ps) refl c (data-follows g Program _ (wholeRow r) 0x10 ps refl close-program)
-job-alike g (erase r) p q =
-    three-only g _ Erase open-erase r _ p q (second-spared g _ 0xd0 0 close-erase) refl (second-follows g Erase (record { 0 = 0 }) (wholeRow r) 0xd0 0 refl refl close-erase)
-job-alike g (status r n) p q =
-    three-only g _ StatusEnhanced open-status r _ p q (outs-spared g _ n) refl (status-follows g StatusEnhanced (record { 0 = 0 }) (wholeRow r) n refl)
+unfolding cycles rowOf firstOf secondRow secondOf classOf
+job-alike g (read c r) p q = five-second g _ _ Read (opens refl refl refl refl) refl refl (closes refl refl refl) c r 0 p q
+job-alike g (readOut c r n) p q = five-second g _ _ ChangeColumnEnhanced (opens refl refl refl refl) refl refl (closes refl refl refl) c r n p q
+job-alike g (program c r ps) p q = five-data g _ _ Program (opens refl refl refl refl) refl refl (closes refl refl refl) c r ps p q
+job-alike g (erase r) p q = three-second g _ _ Erase (opens refl refl refl refl) refl refl (closes refl refl refl) r p q
+job-alike g (status r n) p q = three-status g _ StatusEnhanced (opens refl refl refl refl) refl refl r n p q
