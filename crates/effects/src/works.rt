@@ -62,7 +62,11 @@ pub fn first_work(clear: bool, k: FirstFound) -> Work
 {
     match k {
         FirstFound::Nothing => Work::Nothing,
-        FirstFound::Found(f) => pick_work(clears_register(f) & !clear, Work::ClearAll, Work::Nothing),
+        FirstFound::Found(f) => pick_work(
+            clears_register(f) & !clear,
+            Work::ClearAll,
+            Work::Nothing,
+        ),
     }
 }
 

@@ -2,12 +2,12 @@
 pub mod buffers;
 pub mod usable;
 
-use effects::target_after;
-use effects::target_refused;
-use effects::works::work_of;
 use buffers::findings;
 use buffers::output_byte;
 use buffers::perform;
+use effects::target_after;
+use effects::target_refused;
+use effects::works::work_of;
 use rules::decide;
 use target::Event;
 use target::Refusal;

@@ -5,7 +5,6 @@ pub mod bits;
 pub mod commands;
 pub mod events;
 pub mod picks;
-
 pub mod place;
 pub mod records;
 pub mod sizes;

@@ -47,11 +47,7 @@ pub fn is_ready(x: Lun) -> bool
 pub fn lun_at(luns: Luns, l: usize) -> Lun
     ensures { λ r. ⌜ r ≡ lunAt luns l ⌝ }
 {
-    if l < 4 {
-        luns[l]
-    } else {
-        lun_ready()
-    }
+    if l < 4 { luns[l] } else { lun_ready() }
 }
 
 pub fn works(luns: Luns, l: usize) -> bool

@@ -1,18 +1,18 @@
 // Views of the open sequence, each matched once: what an address cycle completes, what takes data, which second command ends it. The
 // rules and the effects read these and not the sequence's shape.
 use crate::Column;
+use crate::FeatureBytes;
 use crate::Fill;
 use crate::First;
-use crate::FeatureBytes;
 use crate::Row;
 use crate::Second;
 use crate::Sequence;
 use crate::address::column_from;
 use crate::address::row_from;
+use crate::commands::SecondFound;
 use crate::commands::end_of;
 use crate::commands::needs_ready;
 use crate::commands::second_of;
-use crate::commands::SecondFound;
 use crate::commands::takes_row;
 ghost use mathlib.Core.Path.{_≡_};
 ghost use Rattle.target.specs.Pick.{pick};

@@ -29,14 +29,11 @@ use crate::spoils::is_legal;
 use crate::spoils::pick_spoil;
 use crate::spoils::spoil_length;
 use crate::spoils::spoiled;
-use step::Stepped;
-use step::step;
 use power::Powered;
 use power::power_number;
 use power::power_on;
-use unread::Source;
-use unread::part_of;
-use unread::unread_part;
+use step::Stepped;
+use step::step;
 use target::Event;
 use target::Target;
 use target::reply_first;
@@ -44,6 +41,9 @@ use target::reply_second;
 use trace::Ran;
 use trace::run;
 use trace::run_number;
+use unread::Source;
+use unread::part_of;
+use unread::unread_part;
 
 fn lent_step(
     t: Target,

@@ -1,7 +1,7 @@
 // Every command of nib that takes an input or a file, one after the other, on the files of data/. `nib` itself runs `demo`.
-use nib_args::Asked;
-use nib_app::act;
 use libc::STDOUT_FILENO;
+use nib_app::act;
+use nib_args::Asked;
 
 fn title(words: &[u8]) {
     io::write_all(STDOUT_FILENO, b"== ");

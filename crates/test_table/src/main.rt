@@ -7,7 +7,6 @@ mod place;
 mod reading;
 mod spoils;
 
-use slices::fill;
 use compared::labelled;
 use compared::text;
 use model::buffers_compared;
@@ -37,6 +36,7 @@ use power::unpowered;
 use reading::go_on;
 use reading::new_word;
 use reading::take;
+use slices::fill;
 use spoils::spoiled;
 use target::Target;
 

@@ -19,11 +19,11 @@ use Rattle.target.specs.declared.Reply.the-variants as reply
 use Rattle.target.specs.declared.Verdict.{Verdict}
 use Rattle.target.specs.declared.Verdict.the-variants as verdicts
 use Rattle.target.proofs.Both.{both}
-use Rattle.rules.specs.Rules.{verdict}
+use Rattle.rules.specs.Rules.{Rule, rules, firstHolding, verdict}
 use Rattle.step.specs.Usable.{usable}
 use Rattle.step.specs.Step.{Buffers, Outcome, replyOf, acceptedBy, accepted, byVerdict, steady, stepOf}
 use Rattle.thm_kept.proofs.Choice.{by-pick}
-use Rattle.thm_demands.specs.Exact.{Rule, rulesOf, speaks, silent, Exact}
+use Rattle.thm_demands.specs.Exact.{rulesOf, speaks, silent, Exact}
 
 -- two constructors are never equal
 apart : _≡_ {A = ℕ} 0 1 → ⊥
@@ -51,11 +51,6 @@ named-number NotUsable = refl
 same : (r q : Refusal) → eqb (numberOf r) (numberOf q) ≡ true → r ≡ q
 same r q h = sym (named-number r) ∙ ap named (eqb-true (numberOf r) (numberOf q) h) ∙ named-number q
 
--- the first rule of a list that holds
-first : List Rule → Verdict
-first [] = verdicts.Accepted
-first (r ∷ rs) = orElse (r .holds) (r .gives) (first rs)
-
 -- a refusal is listed; no refusal is listed twice
 listed : Refusal → List Rule → Bool
 listed q [] = false
@@ -79,14 +74,14 @@ not-true-twice true h k = false≢true h
 not-true-twice false h k = false≢true k
 
 -- the first that holds is the one that speaks
-to-speaks : (q : Refusal) (rs : List Rule) → distinct rs ≡ true → first rs ≡ verdicts.Refused q → speaks q rs ≡ true
-unfolding first distinct orElse
+to-speaks : (q : Refusal) (rs : List Rule) → distinct rs ≡ true → firstHolding rs ≡ verdicts.Refused q → speaks q rs ≡ true
+unfolding distinct orElse
 to-speaks q [] d h = absurd (apart (cc))
 to-speaks q (r ∷ rs) d h =
     let p = both (not (listed (r .gives) rs)) (distinct rs) d in
     by (p .0) (λ k. to-speaks q rs (p .1) k) (r .holds) h (eqb (numberOf (r .gives)) (numberOf q)) refl
   where
-    by : not (listed (r .gives) rs) ≡ true → (first rs ≡ verdicts.Refused q → speaks q rs ≡ true) → (b : Bool) → pick b (verdicts.Refused (r .gives)) (first rs) ≡ verdicts.Refused q → (s : Bool) → eqb (numberOf (r .gives)) (numberOf q) ≡ s → pick s b (not b && speaks q rs) ≡ true
+    by : not (listed (r .gives) rs) ≡ true → (firstHolding rs ≡ verdicts.Refused q → speaks q rs ≡ true) → (b : Bool) → pick b (verdicts.Refused (r .gives)) (firstHolding rs) ≡ verdicts.Refused q → (s : Bool) → eqb (numberOf (r .gives)) (numberOf q) ≡ s → pick s b (not b && speaks q rs) ≡ true
     by alone ih true k true e = refl
     by alone ih true k false e =
         let is : r .gives ≡ q = cc in
@@ -96,34 +91,52 @@ to-speaks q (r ∷ rs) d h =
         absurd (not-true-twice (listed (r .gives) rs) alone (subst (λ (x : Refusal). listed x rs ≡ true) (sym (same (r .gives) q e)) later))
     by alone ih false k false e = ih k
 
-from-speaks : (q : Refusal) (rs : List Rule) → speaks q rs ≡ true → first rs ≡ verdicts.Refused q
-unfolding first orElse
+from-speaks : (q : Refusal) (rs : List Rule) → speaks q rs ≡ true → firstHolding rs ≡ verdicts.Refused q
+unfolding orElse
 from-speaks q [] h = absurd (false≢true h)
 from-speaks q (r ∷ rs) h = by (λ k. from-speaks q rs k) (r .holds) (eqb (numberOf (r .gives)) (numberOf q)) refl h
   where
-    by : (speaks q rs ≡ true → first rs ≡ verdicts.Refused q) → (b s : Bool) → eqb (numberOf (r .gives)) (numberOf q) ≡ s → pick s b (not b && speaks q rs) ≡ true → pick b (verdicts.Refused (r .gives)) (first rs) ≡ verdicts.Refused q
+    by : (speaks q rs ≡ true → firstHolding rs ≡ verdicts.Refused q) → (b s : Bool) → eqb (numberOf (r .gives)) (numberOf q) ≡ s → pick s b (not b && speaks q rs) ≡ true → pick b (verdicts.Refused (r .gives)) (firstHolding rs) ≡ verdicts.Refused q
     by ih true true e k = ap verdicts.Refused (same (r .gives) q e)
     by ih true false e k = absurd (false≢true k)
     by ih false true e k = absurd (false≢true k)
     by ih false false e k = ih k
 
-silent-first : (rs : List Rule) → silent rs ≡ true → first rs ≡ verdicts.Accepted
-unfolding first orElse
+silent-first : (rs : List Rule) → silent rs ≡ true → firstHolding rs ≡ verdicts.Accepted
+unfolding orElse
 silent-first [] h = refl
 silent-first (r ∷ rs) h = by (λ k. silent-first rs k) (r .holds) h
   where
-    by : (silent rs ≡ true → first rs ≡ verdicts.Accepted) → (b : Bool) → (not b && silent rs) ≡ true → pick b (verdicts.Refused (r .gives)) (first rs) ≡ verdicts.Accepted
+    by : (silent rs ≡ true → firstHolding rs ≡ verdicts.Accepted) → (b : Bool) → (not b && silent rs) ≡ true → pick b (verdicts.Refused (r .gives)) (firstHolding rs) ≡ verdicts.Accepted
     by ih true k = absurd (false≢true k)
     by ih false k = ih k
 
-loud-first : (rs : List Rule) → silent rs ≡ false → (q : Refusal) × (first rs ≡ verdicts.Refused q)
-unfolding first orElse
+loud-first : (rs : List Rule) → silent rs ≡ false → (q : Refusal) × (firstHolding rs ≡ verdicts.Refused q)
+unfolding orElse
 loud-first [] h = absurd (false≢true (sym h))
 loud-first (r ∷ rs) h = by (λ k. loud-first rs k) (r .holds) h
   where
-    by : (silent rs ≡ false → (q : Refusal) × (first rs ≡ verdicts.Refused q)) → (b : Bool) → (not b && silent rs) ≡ false → (q : Refusal) × (pick b (verdicts.Refused (r .gives)) (first rs) ≡ verdicts.Refused q)
+    by : (silent rs ≡ false → (q : Refusal) × (firstHolding rs ≡ verdicts.Refused q)) → (b : Bool) → (not b && silent rs) ≡ false → (q : Refusal) × (pick b (verdicts.Refused (r .gives)) (firstHolding rs) ≡ verdicts.Refused q)
     by ih true k = (r .gives, refl)
     by ih false k = ih k
+
+-- a refusal that is not listed is never given
+not-given : (q : Refusal) (rs : List Rule) → listed q rs ≡ false → firstHolding rs ≡ verdicts.Refused q → ⊥
+unfolding listed orElse
+not-given q [] l h = apart (cc)
+not-given q (r ∷ rs) l h = by (λ z k. not-given q rs z k) (r .holds) h (eqb (numberOf (r .gives)) (numberOf q)) refl l
+  where
+    by : (listed q rs ≡ false → firstHolding rs ≡ verdicts.Refused q → ⊥) → (b : Bool) → pick b (verdicts.Refused (r .gives)) (firstHolding rs) ≡ verdicts.Refused q → (s : Bool) → eqb (numberOf (r .gives)) (numberOf q) ≡ s → pick s true (listed q rs) ≡ false → ⊥
+    by ih b k true e z = false≢true (sym z)
+    by ih true k false e z =
+        let is : r .gives ≡ q = cc in
+        false≢true (sym e ∙ eq-eqb (numberOf (r .gives)) (numberOf q) (ap numberOf is))
+    by ih false k false e z = ih z k
+
+-- the rules after 13 never give 13
+pub never-13 : (t : Target) (e : Event) → verdict t e ≡ verdicts.Refused NotUsable → ⊥
+unfolding verdict rules listed
+never-13 t e h = not-given NotUsable (rules t e) refl h
 
 module _ (t : Target) (e : Event) (page : List ℕ) (b : Buffers) (flags : List ℕ) where
   -- the reply of a verdict
@@ -149,12 +162,12 @@ module _ (t : Target) (e : Event) (page : List ℕ) (b : Buffers) (flags : List 
   says true q = verdict-says (verdict t e) q
   says false q = (λ h. let is : NotUsable ≡ q = cc in ap reply.Refused is, λ h. let is : NotUsable ≡ q = cc in ap verdicts.Refused is)
 
-  step-says : Says (first (rulesOf t e page b flags)) (stepOf t e page b flags .reply)
-  unfolding first rulesOf stepOf verdict
+  step-says : Says (firstHolding (rulesOf t e page b flags)) (stepOf t e page b flags .reply)
+  unfolding rulesOf stepOf verdict
   step-says = says (usable t (length page) (length (b .array)) (length (b .registers)) (length (b .counts)) (length flags))
 
   all-distinct : distinct (rulesOf t e page b flags) ≡ true
-  unfolding distinct listed rulesOf
+  unfolding distinct listed rulesOf rules
   all-distinct = refl
 
   pub exact : Exact t e page b flags

@@ -11,16 +11,32 @@ use lib.Dec.{eqb, ltb, leb}
 use borrow.Author.Tests.{not-true, not-false, eqb-true, lt-ltb, eq-eqb}
 use Rattle.target.specs.Pick.{pick, orElse}
 use Rattle.target.specs.Events.{isBus, isReset, badRecord}
-use Rattle.target.specs.Place.{ready, takesSecond}
-use Rattle.target.specs.Commands.{secondOf, classOf, offered}
+use Rattle.target.specs.Luns.{allReady}
+use Rattle.target.specs.Views.{completed, taking, ending, endedBy, endedWith}
+use Rattle.target.specs.Place.{isOpen}
+use Rattle.target.specs.Commands.{rowOf, firstOf, secondOf, secondRow, endOf, takesRow, clearsRegister, classOf, offered}
 use Rattle.target.specs.Sizes.{inLimits, sized}
 use Rattle.target.specs.declared.Event.{Event}
 use Rattle.target.specs.declared.Geometry.{Geometry}
 use Rattle.target.specs.declared.Target.{Target}
 use Rattle.target.specs.declared.Decoder.{Decoder}
 use Rattle.target.specs.declared.Row.{Row}
-use Rattle.target.specs.declared.First.{First}
-use Rattle.target.specs.declared.First.the-variants.{Read, Jump, Fetch, Erase, Status, Look, Program, Identify, Parameters, GetFeature, SetFeature}
+use Rattle.target.specs.declared.Column.{Column}
+use Rattle.target.specs.declared.Findings.{Findings}
+use Rattle.target.specs.declared.Second.{Second}
+use Rattle.target.specs.declared.Second.the-variants.{StartRead, StartOutput, StartProgram, StartErase, Move}
+use Rattle.target.specs.declared.commands.Act.{Act}
+use Rattle.target.specs.declared.commands.Act.the-variants as act
+use Rattle.target.specs.declared.commands.FirstFound.{FirstFound}
+use Rattle.target.specs.declared.commands.FirstFound.the-variants as first
+use Rattle.target.specs.declared.commands.SecondFound.{SecondFound}
+use Rattle.target.specs.declared.commands.SecondFound.the-variants as second
+use Rattle.target.specs.declared.views.Given.{Given}
+use Rattle.target.specs.declared.views.Given.the-variants as given
+use Rattle.target.specs.declared.views.Taker.{Taker}
+use Rattle.target.specs.declared.views.Taker.the-variants as taker
+use Rattle.target.specs.declared.views.Ender.{Ender}
+use Rattle.target.specs.declared.views.Ender.the-variants as ender
 use Rattle.target.specs.declared.Sequence.{Sequence}
 use Rattle.target.specs.declared.Sequence.the-variants.{Idle, Columns, Rows, Single, Due, Filling, Moving, Setting}
 use Rattle.target.specs.declared.Output.the-variants as output
@@ -34,45 +50,29 @@ use Rattle.target.specs.declared.Work.{Work}
 use Rattle.target.specs.declared.Work.the-variants as work
 use Rattle.target.proofs.Both.{both, neither, other}
 use Rattle.target.proofs.Limits.{limits}
-use Rattle.rules.specs.Rules.{verdict, unknown, beforeReset, fits, misplaced, outOfRange, lunWorks, othersBusy, lineLow, pastEnd, notOffered, notWorking, lineHeld}
+use Rattle.rules.specs.Rules.{rules, verdict, unknown, beforeReset, fits, misplaced, othersBusy, isGuarded, lineLow}
 use Rattle.rules.proofs.ByKind.{command-verdict}
 use Rattle.rules.proofs.Passed.{all-passed}
-use Rattle.effects.specs.After.{dueTask, commandWork, addressWork, dataWork, isProgram, workOf, targetAfter, targetRefused, lunsAfter}
+use Rattle.effects.specs.Effects.{acted, endedWork, firstWork, commandWork, addressWork, dataWork, workOf, targetAfter, targetRefused, lunsAfter}
 use Rattle.page.specs.Page.{fieldsInLimits}
 use Rattle.power.specs.Power.{geometryOf, poweredOf, unpowered, wrongLength, fieldBad, bufferBad, powerAnswer, powering, powerOf}
 use Rattle.power.specs.declared.PowerRefusal.{PowerRefusal}
 use Rattle.power.specs.declared.PowerAnswer.{PowerAnswer}
 use Rattle.power.specs.declared.PowerAnswer.the-variants as power
-use Rattle.power.proofs.Answers.{Passed, all-passed as all-power-passed, limited, accepted-limited}
+use Rattle.power.proofs.Answers.{Passed, all-passed as all-power-passed, limited, worded, accepted-limited}
 use Rattle.step.specs.Usable.{marksSound, recordSound, usable}
-use Rattle.step.specs.Buffers.{spoiltBy, arrayAfter, countsAfter}
-use Rattle.step.specs.Step.{Buffers, Outcome, replyOf, worked, acceptedBy, accepted, byVerdict, steady, stepOf}
+use Rattle.step.specs.Buffers.{arrayAfter, countsAfter}
+use Rattle.step.specs.Step.{Buffers, Outcome, State, replyOf, worked, acceptedBy, accepted, byVerdict, steady, stepOf}
 use Rattle.thm_kept.proofs.Choice.{by-pick, and-true, then-not, or-true}
 use Rattle.thm_kept.proofs.Kept.{Fit, step-usable, step-steady, all-sound}
-use Rattle.thm_demands.specs.Runs.{State, stepAt, left, after, poweredUp}
+use Rattle.thm_demands.specs.Runs.{stepAt, left, after, poweredUp}
 use Rattle.thm_demands.specs.Exact.{rulesOf, speaks}
-use Rattle.thm_demands.proofs.Exact.{exact}
+use Rattle.thm_demands.proofs.Exact.{never-13, exact}
 use Rattle.thm_demands.specs.Promises.{dropped, RefusedCycle, BadChangesNothing, RefusedBench, RefusedPower, Preserved, LineLow, lowThrough, LineLowRun, reset, ResetReadies, NeverUnusable}
 
 -- two constructors are never equal
 apart : _≡_ {A = ℕ} 0 1 → ⊥
 apart h = omega arith
-
--- a rule that gives another refusal does not give this one
-not-it : (x : Bool) (r : Refusal) (v : Verdict) → (r ≡ refusal.NotUsable → ⊥) → (v ≡ verdicts.Refused refusal.NotUsable → ⊥) → orElse x r v ≡ verdicts.Refused refusal.NotUsable → ⊥
-unfolding orElse
-not-it true r v other rest h = other (cc)
-not-it false r v other rest h = rest h
-
--- the rules after 13 never give 13
-never-13 : (t : Target) (e : Event) → verdict t e ≡ verdicts.Refused refusal.NotUsable → ⊥
-unfolding verdict
-never-13 t e =
-    not-it _ refusal.BadRecord _ (λ z. apart (cc)) (not-it _ refusal.BeforeReset _ (λ z. apart (cc)) (not-it _ refusal.Unknown _ (λ z. apart (cc))
-    (not-it _ refusal.Misplaced _ (λ z. apart (cc)) (not-it _ refusal.OthersWork _ (λ z. apart (cc)) (not-it _ refusal.OutOfRange _ (λ z. apart (cc))
-    (not-it _ refusal.NotOffered _ (λ z. apart (cc)) (not-it _ refusal.LunWorks _ (λ z. apart (cc)) (not-it _ refusal.Protected _ (λ z. apart (cc))
-    (not-it _ refusal.PastEnd _ (λ z. apart (cc)) (not-it _ refusal.NotWorking _ (λ z. apart (cc)) (not-it _ refusal.LineHeld _ (λ z. apart (cc))
-    (λ z. apart (cc)))))))))))))
 
 module _ (t : Target) (e : Event) (page : List ℕ) (b : Buffers) (flags : List ℕ) where
   -- an accepted event is not answered with a refusal
@@ -110,7 +110,7 @@ module _ (t : Target) (e : Event) (page : List ℕ) (b : Buffers) (flags : List 
 
   -- a record that is bad is refused so, whatever else holds
   bad-first : badRecord e ≡ true → verdict t e ≡ verdicts.Refused refusal.BadRecord
-  unfolding verdict orElse
+  unfolding verdict rules orElse
   bad-first h = rw (h)
 
   -- the record after a refused bus cycle, a refused bench event, a bad record
@@ -126,7 +126,7 @@ module _ (t : Target) (e : Event) (page : List ℕ) (b : Buffers) (flags : List 
   unfolding targetRefused
   after-bad h = rw (h) (by (isBus e))
     where
-      by : (x : Bool) → _≡_ {A = Target} (record { powered = t .powered; geometry = t .geometry; options = t .options; ids = t .ids; high = t .high; clear = t .clear; seen = t .seen; selected = t .selected; luns = t .luns; decoder = pick (x && false) (record { sequence = Idle; output = output.Nothing }) (t .decoder) }) t
+      by : (x : Bool) → _≡_ {A = Target} (record { powered = t .powered; geometry = t .geometry; words = t .words; ids = t .ids; high = t .high; clear = t .clear; seen = t .seen; selected = t .selected; luns = t .luns; decoder = pick (x && false) (record { sequence = Idle; output = output.Nothing }) (t .decoder) }) t
       by true = refl
       by false = refl
 
@@ -136,7 +136,7 @@ module _ (t : Target) (e : Event) (page : List ℕ) (b : Buffers) (flags : List 
 
   -- only a bad record is refused with 12
   bad-told : stepOf t e page b flags .reply ≡ reply.Refused refusal.BadRecord → badRecord e ≡ true
-  unfolding rulesOf
+  unfolding rulesOf rules
   bad-told h =
       let ok = usable t (length page) (length (b .array)) (length (b .registers)) (length (b .counts)) (length flags) in
       both (not (not ok)) (badRecord e) (exact t e page b flags .only-then refusal.BadRecord h) .1
@@ -190,10 +190,6 @@ refused-power page device array registers counts flags r h = by (powerAnswer pag
     by (power.Refused q) k = let is : q ≡ r = cc in ap (λ (x : PowerRefusal). record { answer = power.Refused x; target = unpowered; registers = registers }) is
 
 -- small laws of tests
-then-true : (x : Bool) → (true && not x) ≡ false → x ≡ true
-then-true true h = refl
-then-true false h = absurd (false≢true (sym h))
-
 not-both : (a b c : Bool) → a ≡ true → c ≡ false → (a && b && not c) ≡ false → b ≡ false
 not-both true true c h k l = absurd (false≢true (sym l ∙ ap not k))
 not-both true false c h k l = refl
@@ -228,86 +224,83 @@ spared g (work.Erase r) b h = absurd (false≢true h)
 spares-pick : (x : Bool) (w v : Work) → (x ≡ true → spares w ≡ true) → (x ≡ false → spares v ≡ true) → spares (pick x w v) ≡ true
 spares-pick x w v h k = by-pick (λ (z : Work). spares z ≡ true) x w v h k
 
--- D0h is the second command of 60h
-due-spares : (f : First) (r : Row) (v : ℕ) (spoilt : Bool) → eqb v (secondOf f) ≡ true → eqb v 0xd0 ≡ false → spares (dueTask f r spoilt) ≡ true
-due-spares Read r v spoilt h k = refl
-due-spares Jump r v spoilt h k = refl
-due-spares Fetch r v spoilt h k = refl
-due-spares Erase r v spoilt h k = absurd (false≢true (sym k ∙ h))
-due-spares Status r v spoilt h k = refl
-due-spares Look r v spoilt h k = refl
-due-spares Program r v spoilt h k = refl
-due-spares Identify r v spoilt h k = refl
-due-spares Parameters r v spoilt h k = refl
-due-spares GetFeature r v spoilt h k = refl
-due-spares SetFeature r v spoilt h k = refl
+-- a second command that rule 7 does not guard neither programs nor erases
+abbrev sparesAct : Act → Bool
+sparesAct act.Nothing = true
+sparesAct act.Load = true
+sparesAct act.Program = false
+sparesAct act.Erase = false
+sparesAct act.Move = true
 
--- a command that fits and is neither 10h nor D0h
-command-spares : (clear : Bool) (s : Sequence) (v : ℕ) (spoilt : Bool) → takesSecond s v ≡ true → eqb v 0x10 ≡ false → eqb v 0xd0 ≡ false → spares (commandWork clear s v spoilt) ≡ true
-command-spares clear Idle v spoilt h p d = spares-pick (eqb v 0x80 && not clear) work.ClearAll work.Nothing (λ _. refl) (λ _. refl)
-command-spares clear (Columns f got low) v spoilt h p d = refl
-command-spares clear (Rows f c got low mid) v spoilt h p d = refl
-command-spares clear (Single f) v spoilt h p d = refl
-command-spares clear (Due f c r) v spoilt h p d = due-spares f r v spoilt h d
-command-spares clear (Filling r at) v spoilt h p d =
-    spares-pick (eqb v 0x10 && not spoilt) (work.Program r) work.Nothing
-    (λ is. absurd (false≢true (sym p ∙ both (eqb v 0x10) (not spoilt) is .0)))
-    (λ _. refl)
-command-spares clear (Moving r got low) v spoilt h p d = refl
-command-spares clear (Setting got value) v spoilt h p d = refl
+unguarded : (s : Second) → secondRow s .guarded ≡ false → sparesAct (secondRow s .act) ≡ true
+unfolding secondRow
+unguarded StartRead h = refl
+unguarded StartOutput h = refl
+unguarded StartProgram h = absurd (false≢true (sym h))
+unguarded StartErase h = absurd (false≢true (sym h))
+unguarded Move h = refl
 
-address-spares : (g : Geometry) (clear : Bool) (s : Sequence) (v : ℕ) → spares (addressWork g clear s v) ≡ true
-address-spares g clear Idle v = refl
-address-spares g clear (Columns f got low) v = refl
-address-spares g clear (Rows f c got low mid) v = spares-pick (isProgram f && eqb got 2 && clear) _ work.Nothing (λ _. refl) (λ _. refl)
-address-spares g clear (Single f) v = refl
-address-spares g clear (Due f c r) v = refl
-address-spares g clear (Filling r at) v = refl
-address-spares g clear (Moving r got low) v = refl
-address-spares g clear (Setting got value) v = refl
+acted-spares : (a : Act) (r : Row) (found : Findings) → sparesAct a ≡ true → spares (acted a r found) ≡ true
+acted-spares act.Nothing r found h = refl
+acted-spares act.Load r found h = refl
+acted-spares act.Program r found h = absurd (false≢true h)
+acted-spares act.Erase r found h = absurd (false≢true h)
+acted-spares act.Move r found h = refl
 
-data-spares : (g : Geometry) (s : Sequence) (v : ℕ) → spares (dataWork g s v) ≡ true
-data-spares g Idle v = refl
-data-spares g (Columns f got low) v = refl
-data-spares g (Rows f c got low mid) v = refl
-data-spares g (Single f) v = refl
-data-spares g (Due f c r) v = refl
-data-spares g (Filling r at) v = refl
-data-spares g (Moving r got low) v = refl
-data-spares g (Setting got value) v = refl
+found-spares : (k : SecondFound) (c : Column) (r : Row) (rowed : Bool) (found : Findings) → isGuarded k ≡ false → spares (endedWork (endedWith k c r rowed) found) ≡ true
+found-spares second.Nothing c r rowed found h = refl
+found-spares (second.Found s) c r rowed found h = acted-spares (secondRow s .act) r found (unguarded s h)
 
--- a command that is accepted fits, and with the line low it is neither 10h nor D0h
-module _ (t : Target) (e : Event) (h : verdict t e ≡ verdicts.Accepted) (k : eqb (e .kind) 0 ≡ true) where
-  command-fits : isReset e ≡ false → takesSecond (t .decoder .sequence) (e .value) ≡ true
-  unfolding misplaced fits
-  command-fits plain =
-      let v = e .value in
-      let s = t .decoder .sequence in
-      let zero : e .kind ≡ 0 = eqb-true (e .kind) 0 k in
-      let placed = all-passed t e h .rule-3 in
-      other (eqb v 0xff) (takesSecond s v) (then-true (eqb v 0xff || takesSecond s v) (rw (zero) at placed)) (then-not (eqb (e .kind) 0) (eqb v 0xff) plain k)
+ended-pick : (x : Bool) (k : Ender) (found : Findings) → spares (endedWork k found) ≡ true → spares (endedWork (pick x k ender.Nothing) found) ≡ true
+ended-pick true k found h = h
+ended-pick false k found h = refl
 
-  low-command : t .high ≡ false → (eqb (e .value) 0x10 ≡ false) × (eqb (e .value) 0xd0 ≡ false)
-  unfolding lineLow
-  low-command low =
-      let either = eqb (e .value) 0x10 || eqb (e .value) 0xd0 in
-      let line = all-passed t e h .rule-7 in
-      neither (eqb (e .value) 0x10) (eqb (e .value) 0xd0) (not-both (eqb (e .kind) 0) either (t .high) k low line)
+ending-spares : (s : Sequence) (v : ℕ) (found : Findings) → isGuarded (secondOf v) ≡ false → spares (endedWork (ending s v) found) ≡ true
+ending-spares Idle v found h = refl
+ending-spares (Columns k) v found h = refl
+ending-spares (Rows k) v found h = refl
+ending-spares (Single f) v found h = refl
+ending-spares (Due k) v found h =
+    ended-pick (eqb v (endOf (k .first))) (endedBy v (k .column) (k .row) (takesRow (k .first))) found (found-spares (secondOf v) (k .column) (k .row) (takesRow (k .first)) found h)
+ending-spares (Filling k) v found h =
+    ended-pick (eqb v 0x10 || eqb v 0x85) (endedBy v (k .at) (k .row) true) found (found-spares (secondOf v) (k .at) (k .row) true found h)
+ending-spares (Moving k) v found h = refl
+ending-spares (Setting k) v found h = refl
 
-low-spares : (t : Target) (e : Event) (spoilt : Bool) → verdict t e ≡ verdicts.Accepted → t .high ≡ false → spares (workOf (t .geometry) (t .clear) (t .decoder .sequence) e spoilt) ≡ true
+first-spares : (clear : Bool) (k : FirstFound) → spares (firstWork clear k) ≡ true
+first-spares clear first.Nothing = refl
+first-spares clear (first.Found f) = spares-pick (clearsRegister f && not clear) work.ClearAll work.Nothing (λ _. refl) (λ _. refl)
+
+address-spares : (g : Geometry) (clear : Bool) (k : Given) → spares (addressWork g clear k) ≡ true
+address-spares g clear given.Nothing = refl
+address-spares g clear (given.Column k) = refl
+address-spares g clear (given.Row k) = spares-pick (clearsRegister (k .first) && clear) _ work.Nothing (λ _. refl) (λ _. refl)
+address-spares g clear (given.Single k) = refl
+
+data-spares : (g : Geometry) (k : Taker) (v : ℕ) → spares (dataWork g k v) ≡ true
+data-spares g taker.Nothing v = refl
+data-spares g (taker.Program k) v = refl
+data-spares g (taker.Feature k) v = refl
+
+-- a command that is accepted with the line low is none that rule 7 guards
+low-command : (t : Target) (e : Event) → verdict t e ≡ verdicts.Accepted → eqb (e .kind) 0 ≡ true → t .high ≡ false → isGuarded (secondOf (e .value)) ≡ false
+unfolding lineLow
+low-command t e h k low = not-both (eqb (e .kind) 0) (isGuarded (secondOf (e .value))) (t .high) k low (all-passed t e h .rule-7)
+
+low-spares : (t : Target) (e : Event) (found : Findings) → verdict t e ≡ verdicts.Accepted → t .high ≡ false → spares (workOf (t .geometry) (t .clear) (t .decoder .sequence) e found) ≡ true
 unfolding workOf
-low-spares t e spoilt h low =
+low-spares t e found h low =
     let g = t .geometry in
     let s = t .decoder .sequence in
     let v = e .value in
-    let w2 = pick (eqb (e .kind) 2) (dataWork g s v) work.Nothing in
-    let w1 = pick (eqb (e .kind) 1) (addressWork g (t .clear) s v) w2 in
-    let w0 = pick (eqb (e .kind) 0) (commandWork (t .clear) s v spoilt) w1 in
+    let w2 = pick (eqb (e .kind) 2) (dataWork g (taking s) v) work.Nothing in
+    let w1 = pick (eqb (e .kind) 1) (addressWork g (t .clear) (completed s v)) w2 in
+    let w0 = pick (eqb (e .kind) 0) (commandWork (t .clear) s v found) w1 in
     spares-pick (isReset e) work.ClearAll w0 (λ _. refl)
-    (λ plain. spares-pick (eqb (e .kind) 0) (commandWork (t .clear) s v spoilt) w1
-    (λ is. let n = low-command t e h is low in command-spares (t .clear) s v spoilt (command-fits t e h is plain) (n .0) (n .1))
-    (λ _. spares-pick (eqb (e .kind) 1) (addressWork g (t .clear) s v) w2 (λ _. address-spares g (t .clear) s v)
-    (λ _. spares-pick (eqb (e .kind) 2) (dataWork g s v) work.Nothing (λ _. data-spares g s v) (λ _. refl))))
+    (λ _. spares-pick (eqb (e .kind) 0) (commandWork (t .clear) s v found) w1
+    (λ is. spares-pick (isOpen s) (endedWork (ending s v) found) (firstWork (t .clear) (firstOf v)) (λ _. ending-spares s v found (low-command t e h is low)) (λ _. first-spares (t .clear) (firstOf v)))
+    (λ _. spares-pick (eqb (e .kind) 1) (addressWork g (t .clear) (completed s v)) w2 (λ _. address-spares g (t .clear) (completed s v))
+    (λ _. spares-pick (eqb (e .kind) 2) (dataWork g (taking s) v) work.Nothing (λ _. data-spares g (taking s) v) (λ _. refl))))
 
 same-buffers : (b : Buffers) → Preserved b b
 same-buffers b = record { array = refl; counts = refl }
@@ -344,7 +337,7 @@ powered-sound page device h =
     let fine = limited page h in
     let m = limits (geometryOf page) fine in
     let g = geometryOf page in
-    all-sound _ refl fine (m .luns-min) (rw (or-true (ltb 0 (g .luns)), or-true (ltb 1 (g .luns)), or-true (ltb 2 (g .luns)), or-true (ltb 3 (g .luns)))) refl refl
+    all-sound _ refl fine (worded page h) (m .luns-min) (rw (or-true (ltb 0 (g .luns)), or-true (ltb 1 (g .luns)), or-true (ltb 2 (g .luns)), or-true (ltb 3 (g .luns)))) refl refl
 
 module _ (page : List ℕ) (device : ℕ) (array registers counts flags : List ℕ) (on : powerAnswer page (length array) (length registers) counts flags ≡ power.Accepted) where
   pub powered-fit : Fit (poweredUp page device array registers counts .target) page (poweredUp page device array registers counts .buffers) flags
@@ -362,10 +355,10 @@ module _ (page : List ℕ) (device : ℕ) (array registers counts flags : List �
   run-fit (e ∷ es) s h = run-fit es (left (stepAt page flags s e)) (step-usable (s .target) e page (s .buffers) flags h)
 
 pub reset-verdict : (t : Target) → verdict t reset ≡ verdicts.Accepted
-unfolding orElse beforeReset unknown classOf offered misplaced fits othersBusy lineLow
+unfolding orElse beforeReset unknown rowOf firstOf secondOf secondRow classOf offered misplaced fits othersBusy lineLow
 reset-verdict t = command-verdict t 0xff
 
-reset-steady : (s : State) (page flags : List ℕ) → (steady (s .target) reset page (s .buffers) flags .reply ≡ reply.Accepted) × (steady (s .target) reset page (s .buffers) flags .target .luns ≡ ready ∷ ready ∷ ready ∷ ready ∷ [])
+reset-steady : (s : State) (page flags : List ℕ) → (steady (s .target) reset page (s .buffers) flags .reply ≡ reply.Accepted) × (steady (s .target) reset page (s .buffers) flags .target .luns ≡ allReady)
 unfolding steady byVerdict accepted acceptedBy replyOf targetAfter lunsAfter
 reset-steady s page flags = rw (reset-verdict (s .target)) (refl, refl)
 

@@ -8,6 +8,7 @@ use lib.Seq.{getD-set-same, getD-set-other}
 use Rattle.slices.specs.Cells.{part, splice, andBytes}
 use Rattle.target.specs.Pick.{orElse}
 use Rattle.target.specs.Address.{bitsOf, fieldWidth, pageOf, blockOf, lunOf}
+use Rattle.target.specs.Sizes.{pageSize}
 use Rattle.target.specs.Events.{badRecord}
 use Rattle.target.specs.declared.Target.{Target}
 use Rattle.target.specs.declared.Refusal.{Refusal}
@@ -42,11 +43,11 @@ unfolding steady byVerdict accepted acceptedBy replyOf outputByte statusOf
 not-accepted-always page b flags = rw (out-answer)
 
 pub not-idle : NotIdle
-unfolding arrayAfter pageIndex blockIndex lunOf blockOf pageOf fieldWidth bitsOf splice part andBytes
+unfolding arrayAfter pageSize pageIndex blockIndex lunOf blockOf pageOf fieldWidth bitsOf splice part andBytes
 not-idle = refl
 
 pub not-once-only : NotOnceOnly
-unfolding arrayAfter pageIndex blockIndex lunOf blockOf pageOf fieldWidth bitsOf splice part andBytes
+unfolding arrayAfter pageSize pageIndex blockIndex lunOf blockOf pageOf fieldWidth bitsOf splice part andBytes
 not-once-only = refl
 
 pub one-more : OneMore

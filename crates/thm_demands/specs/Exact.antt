@@ -7,42 +7,21 @@ use Prim.Native.Nat.{ℕ}
 use lib.ListN.{length}
 use lib.Dec.{eqb}
 use Rattle.target.specs.Pick.{pick}
-use Rattle.target.specs.Events.{badRecord}
 use Rattle.target.specs.Numbers.{numberOf}
 use Rattle.target.specs.declared.Event.{Event}
 use Rattle.target.specs.declared.Target.{Target}
 use Rattle.target.specs.declared.Refusal.{Refusal}
 use Rattle.target.specs.declared.Refusal.the-variants as refusal
 use Rattle.target.specs.declared.Reply.the-variants as reply
-use Rattle.rules.specs.Rules.{unknown, beforeReset, misplaced, outOfRange, lunWorks, othersBusy, lineLow, pastEnd, notOffered, notWorking, lineHeld}
+use Rattle.rules.specs.Rules.{Rule, rule, rules}
 use Rattle.step.specs.Usable.{usable}
 use Rattle.step.specs.Step.{Buffers, stepOf}
 
--- a rule: whether it holds, and the refusal that it gives
-pub record Rule : Type 0 where
-  pub holds : Bool
-  pub gives : Refusal
-
-abbrev pub rule : Bool → Refusal → Rule
-rule b r = record { holds = b; gives = r }
-
--- the rules in document 01's order: 13, 12, 2, 1, 3, 6, 4, 9, 5, 7, 8; 10 and 11 are met by bench events alone
+-- the rules in document 01's order: 13, and then 12, 2, 1, 3, 6, 4, 9, 5, 7, 8; 10 and 11 are met by bench events alone
 unfoldable pub rulesOf : Target → Event → List ℕ → Buffers → List ℕ → List Rule
 rulesOf t e page b flags =
     rule (not (usable t (length page) (length (b .array)) (length (b .registers)) (length (b .counts)) (length flags))) refusal.NotUsable
-    ∷ rule (badRecord e) refusal.BadRecord
-    ∷ rule (beforeReset (t .seen) e) refusal.BeforeReset
-    ∷ rule (unknown (t .options) e) refusal.Unknown
-    ∷ rule (misplaced (t .decoder) e) refusal.Misplaced
-    ∷ rule (othersBusy (t .luns) (t .selected) e) refusal.OthersWork
-    ∷ rule (outOfRange (t .geometry) (t .decoder .sequence) e) refusal.OutOfRange
-    ∷ rule (notOffered (t .options) (t .decoder .sequence) e) refusal.NotOffered
-    ∷ rule (lunWorks (t .geometry) (t .luns) (t .selected) (t .decoder) e) refusal.LunWorks
-    ∷ rule (lineLow (t .high) e) refusal.Protected
-    ∷ rule (pastEnd (t .geometry) (t .decoder) e) refusal.PastEnd
-    ∷ rule (notWorking (t .geometry) (t .luns) e) refusal.NotWorking
-    ∷ rule (lineHeld (t .luns) (t .decoder .sequence) e) refusal.LineHeld
-    ∷ []
+    ∷ rules t e
 
 -- the rule of this refusal holds, and none listed before it does
 abbrev pub speaks : Refusal → List Rule → Bool

@@ -5,7 +5,7 @@ use mathlib.Core.List.{List, [], _∷_}
 use mathlib.Core.Logic.{_⊎_}
 use Prim.Native.Nat.{ℕ}
 use lib.ListN.{length}
-use Rattle.target.specs.Place.{ready}
+use Rattle.target.specs.Luns.{allReady}
 use Rattle.target.specs.Events.{isBus}
 use Rattle.target.specs.declared.Event.{Event}
 use Rattle.target.specs.declared.Target.{Target}
@@ -17,15 +17,15 @@ use Rattle.target.specs.declared.Output.the-variants.{Nothing}
 use Rattle.power.specs.declared.PowerRefusal.{PowerRefusal}
 use Rattle.power.specs.declared.PowerAnswer.the-variants as power
 use Rattle.power.specs.Power.{powerAnswer, powerOf, unpowered}
-use Rattle.step.specs.Step.{Buffers, Outcome, stepOf}
-use Rattle.thm_demands.specs.Runs.{State, stepAt, left, after, poweredUp}
+use Rattle.step.specs.Step.{Buffers, Outcome, State, stepOf}
+use Rattle.thm_demands.specs.Runs.{stepAt, left, after, poweredUp}
 
 -- the record with no sequence open and no output, otherwise the same
 abbrev pub dropped : Target → Target
 dropped t = record {
   powered = t .powered;
   geometry = t .geometry;
-  options = t .options;
+  words = t .words;
   ids = t .ids;
   high = t .high;
   clear = t .clear;
@@ -96,7 +96,7 @@ ResetReadies =
     (page : List ℕ) (device : ℕ) (array registers counts flags : List ℕ)
     → powerAnswer page (length array) (length registers) counts flags ≡ power.Accepted
     → (es : List Event) (s : State) → s ≡ after page flags es (poweredUp page device array registers counts)
-    → (stepAt page flags s reset .reply ≡ Accepted) × (stepAt page flags s reset .target .luns ≡ ready ∷ ready ∷ ready ∷ ready ∷ [])
+    → (stepAt page flags s reset .reply ≡ Accepted) × (stepAt page flags s reset .target .luns ≡ allReady)
 
 -- Rule 13 is sound: from an accepted power-on, no run with its own buffers ever meets it
 abbrev pub NeverUnusable : Type 0

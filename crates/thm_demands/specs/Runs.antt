@@ -5,12 +5,7 @@ use lib.ListN.{length, replicate}
 use Rattle.target.specs.declared.Event.{Event}
 use Rattle.target.specs.declared.Target.{Target}
 use Rattle.power.specs.Power.{poweredOf}
-use Rattle.step.specs.Step.{Buffers, Outcome, stepOf}
-
--- where a run stands
-pub record State : Type 0 where
-  pub target : Target
-  pub buffers : Buffers
+use Rattle.step.specs.Step.{Buffers, Outcome, State, stepOf}
 
 -- what one event answers and leaves there
 abbrev pub stepAt : List ℕ → List ℕ → State → Event → Outcome

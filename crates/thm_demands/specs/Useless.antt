@@ -4,7 +4,7 @@ use mathlib.Core.Bool.{Bool, true, false}
 use mathlib.Core.List.{List, [], _∷_}
 use Prim.Native.Nat.{ℕ, _+_, _<_}
 use lib.ListN.{length, getD}
-use Rattle.target.specs.Place.{ready}
+use Rattle.target.specs.Luns.{allReady}
 use Rattle.target.specs.declared.Event.{Event}
 use Rattle.target.specs.declared.Geometry.{Geometry}
 use Rattle.target.specs.declared.Row.{Row}
@@ -19,7 +19,7 @@ use Rattle.target.specs.declared.Work.the-variants as work
 use Rattle.step.specs.Buffers.{pageIndex, arrayAfter, countsAfter}
 use Rattle.step.specs.Step.{Buffers, Outcome, steady}
 use Rattle.thm_demands.specs.Promises.{reset}
-use Rattle.thm_demands.specs.Cases.{t1, part}
+use Rattle.thm_demands.specs.Cases.{t1, everything}
 
 -- "refusing everything" breaks "at no other time": FFh is accepted by every record that rule 13 lets pass
 abbrev pub NotRefusedAlways : Type 0
@@ -32,13 +32,13 @@ abbrev pub statusOut : Target
 statusOut = record {
   powered = true;
   geometry = t1;
-  options = record { look = true; fetch = true; features = true; clear = true };
+  words = everything;
   ids = record { maker = 0x2c; device = 0x68 };
   high = true;
   clear = false;
   seen = true;
   selected = 0;
-  luns = ready ∷ ready ∷ ready ∷ ready ∷ [];
+  luns = allReady;
   decoder = record { sequence = sequence.Idle; output = output.Status 0 };
 }
 
@@ -52,7 +52,7 @@ NotAcceptedAlways =
 
 -- a part of one page of two bytes, to write the array rule out on
 abbrev pub small : Geometry
-small = record { page = 2; pages = 1; blocks = 1; luns = 1; programs = 4 }
+small = record { bytes = 2; spare = 0; pages = 1; blocks = 1; luns = 1; programs = 4 }
 
 abbrev pub page0 : Work
 page0 = work.Program (record { 0 = 0 })

@@ -2,10 +2,10 @@
 -- Assumes nothing.
 use mathlib.Core.Path.{_≡_, refl}
 use mathlib.Core.Bool.{Bool, true, false, _&&_, _||_, not, false≢true}
-use Prim.Native.Nat.{ℕ, _≤_, _<_}
+use Prim.Native.Nat.{ℕ, _<_}
 use native.Mathlib.Omega.{arith}
 use lib.Dec.{eqb, ltb, leb}
-use borrow.Author.Tests.{ltb-true, eqb-false, eqb-true, eq-eqb, le-leb}
+use borrow.Author.Tests.{ltb-true, eqb-false, eq-eqb, le-leb}
 use lib.Arith.{lt-of-le-ne}
 use Rattle.target.specs.Pick.{pick}
 

@@ -1,37 +1,35 @@
--- Rule 13 is kept: where it lets a record and its buffers pass, it lets pass what any event leaves, with every length as it was.
+-- Rule 13 is kept, as specs/Kept.antt states it: every part of the record stays sound, and every length as it was.
 --     steady-usable    over the step that relies on it
 --     step-usable      over `stepOf`
 -- Assumes nothing.
-use mathlib.Core.Path.{_≡_, refl, sym, ap, _∙_}
-use mathlib.Core.Bool.{Bool, true, false, _&&_, _||_, not, false≢true}
+use mathlib.Core.Path.{_≡_, refl}
+use mathlib.Core.Bool.{true, false, _&&_, not}
 use mathlib.Core.List.{List}
-use Prim.Native.Nat.{ℕ, _*_, _≤_, _<_}
-use native.Mathlib.Omega.{arith}
+use Prim.Native.Nat.{ℕ, _<_}
 use lib.ListN.{length}
 use lib.Dec.{eqb, ltb}
 use borrow.Author.Tests.{ltb-true, lt-ltb}
-use Rattle.target.specs.Pick.{pick}
 use Rattle.target.specs.Events.{isBus, badRecord}
 use Rattle.target.specs.Luns.{works}
 use Rattle.target.specs.Views.{completed, taking}
 use Rattle.target.specs.Sizes.{inLimits, sized}
 use Rattle.target.specs.declared.Event.{Event}
 use Rattle.target.specs.declared.Decoder.{Decoder}
-use Rattle.target.specs.declared.Geometry.{Geometry}
 use Rattle.target.specs.declared.Target.{Target}
 use Rattle.target.specs.declared.Findings.{Findings}
 use Rattle.target.specs.declared.Verdict.{Verdict}
 use Rattle.target.specs.declared.Verdict.the-variants as verdicts
 use Rattle.target.proofs.Both.{both, neither, meant}
-use Rattle.target.proofs.Limits.{Limits, limits}
-use Rattle.rules.specs.Rules.{beyond, dataEnded, outputEnded, unoffered, outputWorks, namesWorking, outOfRange, notOffered, pastEnd, notWorking, verdict}
+use Rattle.target.proofs.Limits.{limits}
+use Rattle.rules.specs.Rules.{beyond, dataEnded, outputEnded, unoffered, outOfRange, notOffered, pastEnd, notWorking, verdict}
 use Rattle.rules.proofs.Passed.{Passed, all-passed}
-use Rattle.effects.specs.Effects.{dropped, selectedAfter, lunsAfter, sequenceAfter, outputAfter, workOf, targetAfter, targetRefused}
+use Rattle.effects.specs.Effects.{dropped, workOf, targetAfter, targetRefused}
 use Rattle.step.specs.Usable.{wordsSound, marksSound, sequenceSound, outputSound, recordSound, usable}
 use Rattle.step.specs.Buffers.{findings}
-use Rattle.step.specs.Step.{Buffers, Outcome, worked, acceptedBy, accepted, byVerdict, steady, stepOf}
-use Rattle.step.proofs.Sound.{Sound, sound, Passes, passes}
+use Rattle.step.specs.Step.{Buffers, worked, acceptedBy, accepted, byVerdict, steady, stepOf}
+use Rattle.step.proofs.Sound.{sound, passes}
 use Rattle.step.proofs.WorkReady.{work-ready}
+use Rattle.thm_kept.specs.Kept.{letsPass, Kept}
 use Rattle.thm_kept.proofs.Choice.{by-pick, and-true, then-not}
 use Rattle.thm_kept.proofs.Sequences.{sequence-kept}
 use Rattle.thm_kept.proofs.Outputs.{output-kept, selected-kept}
@@ -104,9 +102,9 @@ refused-sound t e h =
     (by-pick (λ (d : Decoder). sequenceSound g (d .sequence) ≡ true) (isBus e && not (badRecord e)) dropped (t .decoder) (λ _. refl) (λ _. k .sequence))
     (by-pick (λ (d : Decoder). outputSound g (d .output) ≡ true) (isBus e && not (badRecord e)) dropped (t .decoder) (λ _. refl) (λ _. k .output))
 
--- the lengths that rule 13 looks at
+-- rule 13 lets pass
 abbrev pub Fit : Target → List ℕ → Buffers → List ℕ → Type 0
-Fit t params b flags = usable t (length params) (length (b .array)) (length (b .registers)) (length (b .counts)) (length flags) ≡ true
+Fit t params b flags = letsPass t params b flags ≡ true
 
 -- a sound record of the same geometry, with buffers of the same lengths, passes too
 pub refit : (t n : Target) (params : List ℕ) (b c : Buffers) (flags : List ℕ) → Fit t params b flags → recordSound n ≡ true → n .geometry ≡ t .geometry → length (c .array) ≡ length (b .array) → length (c .registers) ≡ length (b .registers) → length (c .counts) ≡ length (b .counts) → Fit n params c flags
@@ -147,3 +145,6 @@ module _ (t : Target) (e : Event) (params : List ℕ) (b : Buffers) (flags : Lis
 
   pub step-usable : Fit (stepOf t e params b flags .target) params (stepOf t e params b flags .buffers) flags
   step-usable = rw (step-steady) (steady-usable)
+
+pub kept : Kept
+kept t e params b flags h = step-usable t e params b flags h

@@ -1,24 +1,21 @@
 -- Work that stays within the buffers keeps their lengths.
 -- Assumes nothing.
-use mathlib.Core.Path.{_≡_, refl, sym, _∙_}
-use mathlib.Core.Bool.{Bool, true}
+use mathlib.Core.Path.{_≡_, refl, _∙_}
 use mathlib.Core.List.{List}
-use Prim.Native.Nat.{ℕ, _+_, _*_, _≤_, _<_}
+use Prim.Native.Nat.{ℕ, _+_, _*_, _≤_}
 use native.Mathlib.Omega.{arith}
-use lib.ListN.{length, getD, set, replicate, length-set, length-replicate}
-use Rattle.slices.specs.Cells.{splice, part, andBytes}
+use lib.ListN.{length, length-set, length-replicate}
+use Rattle.slices.specs.Cells.{part}
 use Rattle.slices.proofs.Splice.{length-splice, length-part, piece}
 use Rattle.slices.proofs.Anded.{length-and}
 use Rattle.target.specs.Address.{lunOf}
 use Rattle.target.specs.Sizes.{pageSize}
-use Rattle.target.specs.declared.Column.{Column}
-use Rattle.target.specs.declared.Row.{Row}
 use Rattle.target.specs.declared.Geometry.{Geometry}
 use Rattle.target.specs.declared.Work.{Work}
 use Rattle.target.specs.declared.Work.the-variants as work
 use Rattle.step.specs.Buffers.{blockIndex, pageIndex, registersAfter, arrayAfter, countsAfter}
-use Rattle.step.specs.Step.{Buffers, worked, Sizes, Ready}
-use Rattle.step.proofs.Places.{row-lun, block-pages-end, block-bytes-end, page-bytes-end, register-end}
+use Rattle.step.specs.Step.{Sizes, Ready}
+use Rattle.step.proofs.Places.{block-pages-end, block-bytes-end, page-bytes-end, register-end}
 
 -- the length of a part, by its name
 pub part-length : (xs : List ℕ) (at n : ℕ) → at + n ≤ length xs → length (part xs at n) ≡ n

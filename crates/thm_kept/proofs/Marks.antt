@@ -1,7 +1,7 @@
 -- The LUN records after an accepted event: a LUN past the count stays as power-on left it.
 -- Assumes nothing.
 use mathlib.Core.Path.{_≡_, refl, sym, subst}
-use mathlib.Core.Bool.{Bool, true, false, _&&_, _||_, not}
+use mathlib.Core.Bool.{Bool, true, false, _&&_, _||_}
 use mathlib.Core.List.{List}
 use Prim.Native.Nat.{ℕ, _≤_, _<_}
 use native.Mathlib.Omega.{arith}
@@ -9,7 +9,6 @@ use lib.ListN.{set}
 use lib.Seq.{getD-set-other}
 use lib.Dec.{eqb, ltb}
 use borrow.Author.Tests.{ltb-false}
-use Rattle.target.specs.Pick.{pick}
 use Rattle.target.specs.Commands.{secondRow}
 use Rattle.target.specs.Views.{ending}
 use Rattle.target.specs.Luns.{lunReady, allReady, isReady, lunAt}

@@ -1,12 +1,11 @@
 -- The output and the selected LUN after an accepted event are sound where those before it are.
 -- Assumes nothing.
 use mathlib.Core.Path.{_≡_, refl}
-use mathlib.Core.Bool.{Bool, true, false, _&&_, _||_, not, false≢true}
+use mathlib.Core.Bool.{true, false}
 use Prim.Native.Nat.{ℕ, _+_, _≤_, _<_}
 use native.Mathlib.Omega.{arith}
 use lib.Dec.{eqb, ltb, leb}
 use borrow.Author.Tests.{leb-false, lt-ltb, le-leb, not-false}
-use Rattle.target.specs.Pick.{pick}
 use Rattle.target.specs.Address.{lunOf}
 use Rattle.target.specs.Sizes.{pageSize}
 use Rattle.target.specs.Commands.{cyclesOf, thenOf, takesRow, firstOf, secondRow}

@@ -1,12 +1,11 @@
 -- The sequence after an accepted event is sound where the one before it is.
 -- Assumes nothing.
-use mathlib.Core.Path.{_≡_, refl, sym, ap, _∙_}
+use mathlib.Core.Path.{_≡_, refl, sym}
 use mathlib.Core.Bool.{Bool, true, false, _&&_, _||_, not, false≢true}
-use Prim.Native.Nat.{ℕ, _+_, _≤_, _<_}
+use Prim.Native.Nat.{ℕ, _+_}
 use native.Mathlib.Omega.{arith}
 use lib.Dec.{eqb, ltb, leb}
 use borrow.Author.Tests.{leb-false, lt-ltb, le-leb, eqb-true, not-false}
-use Rattle.target.specs.Pick.{pick}
 use Rattle.target.specs.Address.{columnFrom, rowFrom, rowExists}
 use Rattle.target.specs.Sizes.{pageSize}
 use Rattle.target.specs.Words.{hasFeature}
@@ -33,8 +32,8 @@ use Rattle.target.specs.declared.views.Taker.{Taker}
 use Rattle.target.specs.declared.views.Taker.the-variants as taker
 use Rattle.target.specs.declared.views.Ender.{Ender}
 use Rattle.target.specs.declared.views.Ender.the-variants as ender
-use Rattle.target.proofs.Both.{both, both3, meant}
-use Rattle.rules.specs.Rules.{exists, rowFits, beyond, dataEnded, unoffered}
+use Rattle.target.proofs.Both.{both, both3}
+use Rattle.rules.specs.Rules.{rowFits, beyond, dataEnded, unoffered}
 use Rattle.effects.specs.Effects.{started, opened, isMove, endedSequence, commanded, followed, columnGiven, addressed, filled, sequenceAfter}
 use Rattle.step.specs.Usable.{columnHeld, rowHeld, sequenceSound}
 use Rattle.thm_kept.proofs.Choice.{by-pick, and-true, one-of-two, two-of-three, below-at-most}

@@ -9,7 +9,6 @@ use lib.Dec.{eqb, ltb, leb, lit<}
 use Rattle.target.specs.Pick.{pick}
 use Rattle.target.specs.Address.{rowExists}
 use Rattle.target.specs.Commands.{takesColumn, takesRow, waitsSecond}
-use Rattle.target.specs.Words.{hasFeature}
 use Rattle.target.specs.Luns.{works, failed}
 use Rattle.target.specs.Sizes.{pageSize, inLimits}
 use Rattle.target.specs.declared.Column.{Column}
@@ -20,12 +19,6 @@ use Rattle.target.specs.declared.Geometry.{Geometry}
 use Rattle.target.specs.declared.Target.{Target}
 use Rattle.target.specs.declared.First.{First}
 use Rattle.target.specs.declared.Words.{Words}
-use Rattle.target.specs.declared.ColumnCycles.{ColumnCycles}
-use Rattle.target.specs.declared.RowCycles.{RowCycles}
-use Rattle.target.specs.declared.Wait.{Wait}
-use Rattle.target.specs.declared.Fill.{Fill}
-use Rattle.target.specs.declared.Moved.{Moved}
-use Rattle.target.specs.declared.FeatureBytes.{FeatureBytes}
 use Rattle.target.specs.declared.Sequence.{Sequence}
 use Rattle.target.specs.declared.Sequence.the-variants.{Idle, Columns, Rows, Single, Due, Filling, Moving, Setting}
 use Rattle.target.specs.declared.Output.{Output}
@@ -45,7 +38,7 @@ use Rattle.thm_kept.proofs.Choice.{and-true}
 use Rattle.thm_kept.proofs.Kept.{all-sound}
 use Rattle.thm_demands.specs.Runs.{stepAt, left, after, poweredUp}
 use Rattle.thm_demands.proofs.Promised.{powered-fit, run-fit}
-use Rattle.thm_tight.specs.Tight.{Reached, Stands, Shows, Leaves, SequenceGiven, OutputGiven, ByItself}
+use Rattle.thm_tight.specs.Tight.{Reached, Stands, Shows, SequenceGiven, OutputGiven, ByItself}
 use Rattle.thm_tight.proofs.Marks.{one-mark}
 
 -- No event changes the geometry.

@@ -14,11 +14,9 @@ use Rattle.target.specs.Commands.{rowOf, byteOf, cyclesOf, thenOf, takesColumn,
 use Rattle.target.specs.declared.Words.{Words}
 use Rattle.target.specs.declared.First.{First}
 use Rattle.target.specs.declared.First.the-variants.{Read, ChangeColumn, ChangeColumnEnhanced, Erase, Status, StatusEnhanced, Program, ReadId, ParameterPage, GetFeatures, SetFeatures}
-use Rattle.target.specs.declared.Output.{Output}
 use Rattle.target.specs.declared.Output.the-variants as output
 use Rattle.target.specs.declared.commands.Then.{Then}
 use Rattle.target.specs.declared.commands.Then.the-variants as then
-use Rattle.target.specs.declared.commands.FirstFound.{FirstFound}
 use Rattle.target.specs.declared.commands.FirstFound.the-variants as first
 use Rattle.target.proofs.Both.{both5}
 use Rattle.target.proofs.Firsts.{each-first}

@@ -1,7 +1,7 @@
 -- The cycles that a part with every option takes, as ways between targets whose LUNs are all ready.
 -- Assumes nothing.
 use mathlib.Core.Path.{_≡_, refl, ap, _∙_}
-use mathlib.Core.Bool.{Bool, true, false, _&&_, _||_, not, false≢true}
+use mathlib.Core.Bool.{Bool, true, false, _&&_, not}
 use mathlib.Core.List.{List}
 use Prim.Native.Nat.{ℕ, zero, suc, _≤_}
 use native.Mathlib.Omega.{arith}
@@ -9,8 +9,7 @@ use lib.Dec.{eqb}
 use borrow.Author.Tests.{leb-true, not-true}
 use Rattle.target.specs.Pick.{orElse}
 use Rattle.target.specs.Address.{lunOf}
-use Rattle.target.specs.Words.{bitOf}
-use Rattle.target.specs.Commands.{classOf, offered, rowOf, byteOf, needsReady, waitsFor, firstOf, secondOf, secondRow, isKnown, isFirst}
+use Rattle.target.specs.Commands.{classOf, offered, rowOf, byteOf, needsReady, waitsFor, firstOf, secondOf, secondRow}
 use Rattle.target.specs.Views.{completed, taking}
 use Rattle.target.specs.Luns.{lunReady, allReady, lunAt, works}
 use Rattle.target.specs.Events.{badRecord}

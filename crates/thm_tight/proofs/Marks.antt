@@ -10,11 +10,10 @@ use lib.Dec.{ltb}
 use borrow.Author.Tests.{ltb-true}
 use Rattle.target.specs.Address.{lunOf, rowExists}
 use Rattle.target.specs.Commands.{secondOf, secondRow}
-use Rattle.target.specs.Luns.{lunReady, allReady, isReady, lunAt, works, failed}
+use Rattle.target.specs.Luns.{lunReady, allReady, lunAt, works, failed}
 use Rattle.target.specs.declared.Lun.{Lun}
 use Rattle.target.specs.declared.Geometry.{Geometry}
 use Rattle.target.specs.declared.Target.{Target}
-use Rattle.target.specs.declared.Findings.{Findings}
 use Rattle.target.specs.declared.Sequence.the-variants.{Filling}
 use Rattle.target.specs.declared.Output.the-variants as output
 use Rattle.target.proofs.Both.{both4}
@@ -22,7 +21,7 @@ use Rattle.target.proofs.Limits.{limits}
 use Rattle.rules.proofs.ByKind.{event}
 use Rattle.effects.specs.Effects.{lunsAfter, targetAfter}
 use Rattle.step.specs.Usable.{markSound, marksSound}
-use Rattle.step.specs.Buffers.{blockIndex, blockBad, pageFull, findings}
+use Rattle.step.specs.Buffers.{blockIndex, blockBad, findings}
 use Rattle.step.proofs.Places.{row-block, block-below}
 use Rattle.thm_kept.proofs.Choice.{or-true}
 use Rattle.thm_tight.specs.Tight.{Reached}

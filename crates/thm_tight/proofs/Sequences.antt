@@ -38,7 +38,7 @@ use Rattle.rules.proofs.ByKind.{event}
 use Rattle.effects.specs.Effects.{started, columnGiven, followed, shown, sequenceAfter, outputAfter, lunsAfter, selectedAfter, clearAfter, highAfter, targetAfter}
 use Rattle.step.specs.Usable.{columnHeld, rowHeld, sequenceSound}
 use Rattle.thm_kept.proofs.Views.{row-named}
-use Rattle.thm_tight.specs.Tight.{Stands, Leaves, SequenceGiven, bytesHeld}
+use Rattle.thm_tight.specs.Tight.{Stands, SequenceGiven, bytesHeld}
 use Rattle.thm_tight.proofs.Part.{Fine}
 use Rattle.thm_tight.proofs.Ways.{Way, to-end, reached}
 use Rattle.thm_tight.proofs.Commands.{every, addresses, no-output, waits-some, waits-then}
@@ -293,18 +293,20 @@ module _ (g : Geometry) (flag : ℕ) (fine : Fine (full g flag)) where
   sequence-given (Columns k) small h =
       let f = k .first in
       let p = both (takesColumn f) (ltb (k .got) 2) h in
-      let n = columns-count f (p .0) (k .got) (ltb-true _ _ (p .1)) in
-      (record { other = columns f (k .got) (n .0); stands = n .1; same = refl },
-      record { other = columns f 1 (k .low); stands = there _ _ (column-low f (p .0) (k .low) small); same = refl })
+      let n = columns-count f (p .0) (k .got) (ltb-true _ _ (p .1)) in (
+        record { other = columns f (k .got) (n .0); stands = n .1; same = refl },
+        record { other = columns f 1 (k .low); stands = there _ _ (column-low f (p .0) (k .low) small); same = refl },
+      )
   sequence-given (Rows k) small h =
       let f = k .first in
       let c = k .column in
       let p = both3 (takesRow f) (ltb (k .got) 3) (columnHeld g f c) h in
-      let n = rows-count f (p .0) c (p .2) (k .got) (ltb-true _ _ (p .1)) in
-      (record { other = rows f c (k .got) (n .0) (n .1); stands = n .2; same = refl },
-      record { other = rows f c (k .got) (n .0) (n .1); stands = n .2; same = refl },
-      record { other = rows f c 1 (k .low) 0; stands = there _ _ (row-low f (p .0) c (p .2) (k .low) (small .0)); same = refl },
-      record { other = rows f c 2 0 (k .mid); stands = there _ _ (row-mid f (p .0) c (p .2) 0 (k .mid) (omega arith) (small .1)); same = refl })
+      let n = rows-count f (p .0) c (p .2) (k .got) (ltb-true _ _ (p .1)) in (
+        record { other = rows f c (k .got) (n .0) (n .1); stands = n .2; same = refl },
+        record { other = rows f c (k .got) (n .0) (n .1); stands = n .2; same = refl },
+        record { other = rows f c 1 (k .low) 0; stands = there _ _ (row-low f (p .0) c (p .2) (k .low) (small .0)); same = refl },
+        record { other = rows f c 2 0 (k .mid); stands = there _ _ (row-mid f (p .0) c (p .2) 0 (k .mid) (omega arith) (small .1)); same = refl },
+      )
   sequence-given (Single f) small h = there _ _ (single f h)
   sequence-given (Due k) small h =
       let w = due-whole k h in
@@ -315,12 +317,14 @@ module _ (g : Geometry) (flag : ℕ) (fine : Fine (full g flag)) where
       (record { other = k; stands = w; same = refl }, record { other = k; stands = w; same = refl })
   sequence-given (Moving k) small h =
       let p = both (ltb (k .got) 2) (rowExists g (k .row)) h in
-      let n = moving-count (k .row) (p .1) (k .got) (ltb-true _ _ (p .0)) in
-      (record { other = moved-to (k .row) (k .got) (n .0); stands = n .1; same = refl },
-      record { other = moved-to (k .row) (k .got) (n .0); stands = n .1; same = refl },
-      record { other = moved-to (k .row) 1 (k .low); stands = there _ _ (moving-low (k .row) (p .1) (k .low) small); same = refl })
+      let n = moving-count (k .row) (p .1) (k .got) (ltb-true _ _ (p .0)) in (
+        record { other = moved-to (k .row) (k .got) (n .0); stands = n .1; same = refl },
+        record { other = moved-to (k .row) (k .got) (n .0); stands = n .1; same = refl },
+        record { other = moved-to (k .row) 1 (k .low); stands = there _ _ (moving-low (k .row) (p .1) (k .low) small); same = refl },
+      )
   sequence-given (Setting k) small h =
       let p = both (ltb (k .got) 4) (eqb (k .value) 0 || eqb (k .value) 0x40) h in
-      let n = setting-count (k .got) (ltb-true _ _ (p .0)) in
-      (record { other = setting (k .got) (n .0); stands = n .1; same = refl },
-      record { other = setting 1 (k .value); stands = there _ _ (setting-one (k .value) (p .1)); same = refl })
+      let n = setting-count (k .got) (ltb-true _ _ (p .0)) in (
+        record { other = setting (k .got) (n .0); stands = n .1; same = refl },
+        record { other = setting 1 (k .value); stands = there _ _ (setting-one (k .value) (p .1)); same = refl },
+      )

@@ -19,12 +19,12 @@ mul-result : tie.Need-mul-result
 mul-result c =
     let if1 = c .before .before .before in
     let ok = sound _ (sym (if1 .before .record-sound .ensures) ∙ if1 .if1 .taken) in
-    rw (c .page-size .ensures) (omega (arith, registers-all (limits _ (ok .limited))))
+    rw (c .before .page-size .ensures) (omega (arith, registers-all (limits _ (ok .limited))))
 
 returns : tie.Need-returns
 unfolding readable
 returns c =
-    let if1 = c .before .before .before .before in
+    let if1 = c .before .before .before in
     let ok = sym (if1 .before .record-sound .ensures) ∙ if1 .if1 .taken in
     rw (ok, c .before .page-size .ensures)
 

@@ -2,6 +2,7 @@
 -- Assumes nothing.
 use native.Mathlib.Omega.{arith}
 use Rattle.slices.proofs.Splice.{piece}
+use Rattle.target.specs.Sizes.{pageSize}
 use Rattle.target.proofs.Limits.{limits, registers-all}
 use Rattle.step.proofs.Sound.{register-place}
 use borrow.Author.Needs.{needs}
@@ -17,32 +18,35 @@ nothing-requires c κs = search needs
 enum-known-o : tie.Need-enum-known-o
 enum-known-o c = search needs
 
-mul-t11 : tie.Need-mul-t11
-mul-t11 c =
-    let known = c .before .before .o .given in
-    let start = c .before .before .before .before in
-    let m = limits _ (start .pre .0) in
-    let fine = rw (known .1) at (start .pre .1) in
-    let k = register-place (start .args .g) (known .0 .0) (known .0 .1 .0) fine in
-    omega (arith, piece (start .args .g .page) (k .0), registers-all m, m .page-max, k .1)
+page-size-requires : tie.Need-page-size-requires
+page-size-requires c κs = search needs
 
-add-t12 : tie.Need-add-t12
-add-t12 c =
-    let known = c .before .before .before .o .given in
-    let start = c .before .before .before .before .before in
+mul-t12 : tie.Need-mul-t12
+mul-t12 c =
+    let size = c in
+    let known = size .before .before .o .given in
+    let start = size .before .before .before .before in
     let m = limits _ (start .pre .0) in
-    let fine = rw (known .1) at (start .pre .1) in
-    let k = register-place (start .args .g) (known .0 .0) (known .0 .1 .0) fine in
-    omega (arith, piece (start .args .g .page) (k .0), registers-all m, m .page-max, k .1)
+    let k = register-place (start .args .g) (known .0 .0) (known .0 .1 .0) (rw (known .1) at (start .pre .1)) in
+    rw (size .page-size .ensures) (omega (arith, piece (pageSize (start .args .g)) (k .0), registers-all m, m .page-max, k .1))
 
-sub-t13 : tie.Need-sub-t13
-sub-t13 c =
-    let known = c .before .before .before .before .before .o .given in
-    let start = c .before .before .before .before .before .before .before in
+add-t13 : tie.Need-add-t13
+add-t13 c =
+    let size = c .before in
+    let known = size .before .before .o .given in
+    let start = size .before .before .before .before in
     let m = limits _ (start .pre .0) in
-    let fine = rw (known .1) at (start .pre .1) in
-    let k = register-place (start .args .g) (known .0 .0) (known .0 .1 .0) fine in
-    omega (arith, piece (start .args .g .page) (k .0), registers-all m, m .page-max, k .1)
+    let k = register-place (start .args .g) (known .0 .0) (known .0 .1 .0) (rw (known .1) at (start .pre .1)) in
+    rw (size .page-size .ensures) (omega (arith, piece (pageSize (start .args .g)) (k .0), registers-all m, m .page-max, k .1))
+
+sub-t14 : tie.Need-sub-t14
+sub-t14 c =
+    let size = c .before .before in
+    let known = size .before .before .o .given in
+    let start = size .before .before .before .before in
+    let m = limits _ (start .pre .0) in
+    let k = register-place (start .args .g) (known .0 .0) (known .0 .1 .0) (rw (known .1) at (start .pre .1)) in
+    omega (arith, k .1, size .page-size .ensures)
 
 works-requires : tie.Need-works-requires
 works-requires c κs = search needs
@@ -56,8 +60,8 @@ pick-unread-requires c κs = search needs
 enum-known-o-2 : tie.Need-enum-known-o-2
 enum-known-o-2 c = search needs
 
-sub-t21 : tie.Need-sub-t21
-sub-t21 c = search needs
+sub-t22 : tie.Need-sub-t22
+sub-t22 c = search needs
 
 nothing-requires-3 : tie.Need-nothing-requires-3
 nothing-requires-3 c κs = search needs
@@ -95,13 +99,14 @@ returns c = search needs
 returns-2 : tie.Need-returns-2
 returns-2 c =
     let c1 = c .before in
-    let c4 = c1 .before .before .before in
-    let c10 = c4 .before .before .before .before .before .before in
+    let c3 = c1 .before .before in
+    let c6 = c3 .before .before .before in
     rw (
       c .pick-unread .ensures,
       c1 .nothing2 .ensures,
-      c4 .works .ensures,
-      c10 .o .given .1,
+      c3 .works .ensures,
+      c6 .page-size .ensures,
+      c6 .before .before .o .given .1,
     )
 
 returns-3 : tie.Need-returns-3
@@ -133,14 +138,15 @@ unread-in-spec =
     enum-told
     nothing-requires
     enum-known-o
-    mul-t11
-    add-t12
-    sub-t13
+    page-size-requires
+    mul-t12
+    add-t13
+    sub-t14
     works-requires
     nothing-requires-2
     pick-unread-requires
     enum-known-o-2
-    sub-t21
+    sub-t22
     nothing-requires-3
     pick-unread-requires-2
     enum-told-2
