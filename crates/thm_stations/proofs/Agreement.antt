@@ -13,11 +13,20 @@ use Rattle.step.specs.Step.{Buffers, Sizes}
 use Rattle.thm_stations.specs.Isolated.{lunBytes, lunPages}
 use Rattle.thm_stations.proofs.Edits.{Edit, as-is, edit-flip, edit-apart, edit-alike}
 
--- two sets of buffers agree on the l-th LUN's share
+-- two sets of buffers agree on the l-th LUN's share of the array, of the registers, of the counts: a lemma asks for what it needs
+abbrev pub ArrayAgrees : Geometry → ℕ → Buffers → Buffers → Type 0
+ArrayAgrees g l b c = part (b .array) (l * lunBytes g) (lunBytes g) ≡ part (c .array) (l * lunBytes g) (lunBytes g)
+
+abbrev pub RegisterAgrees : Geometry → ℕ → Buffers → Buffers → Type 0
+RegisterAgrees g l b c = part (b .registers) (l * pageSize g) (pageSize g) ≡ part (c .registers) (l * pageSize g) (pageSize g)
+
+abbrev pub CountsAgree : Geometry → ℕ → Buffers → Buffers → Type 0
+CountsAgree g l b c = part (b .counts) (l * lunPages g) (lunPages g) ≡ part (c .counts) (l * lunPages g) (lunPages g)
+
 pub record Parts (g : Geometry) (l : ℕ) (b c : Buffers) : Type 0 where
-  pub array : part (b .array) (l * lunBytes g) (lunBytes g) ≡ part (c .array) (l * lunBytes g) (lunBytes g)
-  pub registers : part (b .registers) (l * pageSize g) (pageSize g) ≡ part (c .registers) (l * pageSize g) (pageSize g)
-  pub counts : part (b .counts) (l * lunPages g) (lunPages g) ≡ part (c .counts) (l * lunPages g) (lunPages g)
+  pub array : ArrayAgrees g l b c
+  pub registers : RegisterAgrees g l b c
+  pub counts : CountsAgree g l b c
 
 abbrev pub SizesOf : Geometry → Buffers → Type 0
 SizesOf g b = Sizes g (b .array) (b .registers) (b .counts)

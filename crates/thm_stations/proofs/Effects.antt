@@ -44,7 +44,7 @@ use Rattle.step.specs.Step.{Buffers, replyOf, Reaches, EnderReaches}
 use Rattle.step.proofs.WorkReady.{ender-reaches}
 use Rattle.thm_kept.proofs.Choice.{by-pick}
 use Rattle.thm_stations.specs.Jobs.{Cycle, command, address, dataIn, dataOut, eventOf}
-use Rattle.thm_stations.proofs.Agreement.{Parts, SizesOf}
+use Rattle.thm_stations.proofs.Agreement.{RegisterAgrees, CountsAgree, SizesOf}
 use Rattle.thm_stations.proofs.OwnWork.{Mine, count-alike}
 use Rattle.thm_stations.proofs.Records.{Changed, as-were, become-by, changed-pick}
 use Rattle.thm_stations.proofs.Halves.{Fixed, fixedOf, made, refixed}
@@ -148,7 +148,7 @@ module _ (g : Geometry) (l : ℕ) where
       record { sequence = refl; standing = rw (← same) equal; course = rw here (course .1 fit); rest = spared-behind g l cs spared }
 
 -- What a second command asks of the buffers: whether it proceeds.
-module _ (g : Geometry) (l : ℕ) (flags : List ℕ) (B C : Buffers) (sizes : SizesOf g B) (sizesʳ : SizesOf g C) (agree : Parts g l B C) where
+module _ (g : Geometry) (l : ℕ) (flags : List ℕ) (B C : Buffers) (sizes : SizesOf g B) (sizesʳ : SizesOf g C) (agree : CountsAgree g l B C) where
   full-alike : (r : Row) → rowExists g r ≡ true → lunOf g r ≡ l → pageFull g r (B .counts) ≡ pageFull g r (C .counts)
   unfolding pageFull
   full-alike r there q = ap (leb (g .programs)) (count-alike g B C sizes sizesʳ r there (rw q agree))
@@ -175,7 +175,7 @@ module _ (g : Geometry) (l : ℕ) (flags : List ℕ) (B C : Buffers) (sizes : Si
   findings-alike s o dataOut ok keeps = refl
 
 -- The answer.
-module _ (k : Fixed) (l a b : ℕ) (xs ys : List Lun) (lun : lunAt xs l ≡ lunAt ys l) (params : List ℕ) (B C : Buffers) (agree : Parts (k .geometry) l B C) where
+module _ (k : Fixed) (l a b : ℕ) (xs ys : List Lun) (lun : lunAt xs l ≡ lunAt ys l) (params : List ℕ) (B C : Buffers) (agree : RegisterAgrees (k .geometry) l B C) where
   status-alike : (d e : Decoder) → statusOf (made k a xs d) l ≡ statusOf (made k b ys e) l
   unfolding statusOf
   status-alike d e = rw lun
@@ -184,7 +184,7 @@ module _ (k : Fixed) (l a b : ℕ) (xs ys : List Lun) (lun : lunAt xs l ≡ lunA
   unfolding OutputOf outputByte
   byte-alike s output.Nothing q ended = refl
   byte-alike s (output.Register m c) q ended =
-      rw q (getD-alike (B .registers) (C .registers) (l * pageSize (k .geometry)) (pageSize (k .geometry)) (agree .registers) (c .0) (leb-false _ _ ended))
+      rw q (getD-alike (B .registers) (C .registers) (l * pageSize (k .geometry)) (pageSize (k .geometry)) agree (c .0) (leb-false _ _ ended))
   byte-alike s (output.Parameters at) q ended = absurd q
   byte-alike s (output.Status m) q ended = rw q (status-alike _ _)
   byte-alike s (output.Ids at) q ended = absurd q

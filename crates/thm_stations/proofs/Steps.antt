@@ -102,7 +102,7 @@ module _ (params flags : List ℕ) where
             let u = passing (stateOf leftTarget B) (agreed .fine) in
             let uʳ = passing (stateOf rightTarget C) (agreed .fineʳ) in
             record {
-              reply = reply-alike k l a b xs ys (agreed .lun) params B C (agreed .parts) q c standing keeps (all-passed leftTarget (eventOf c) held .rule-8);
+              reply = reply-alike k l a b xs ys (agreed .lun) params B C (agreed .parts .registers) q c standing keeps (all-passed leftTarget (eventOf c) held .rule-8);
               luns = luns-changed g l xs ys (agreed .lun) q o c found keeps;
               buffers = worked-edited g B C (u .sizes) (uʳ .sizes) (workOf g (k .clear) q (eventOf c) found) l
                   (work-ready leftTarget (eventOf c) (B .counts) flags (u .record-sound) held found told)
@@ -116,7 +116,7 @@ module _ (params flags : List ℕ) where
         same-findings : findings (k .geometry) q (eventOf c) (B .counts) flags ≡ findings (k .geometry) q (eventOf c) (C .counts) flags
         same-findings =
             let u = passing (stateOf leftTarget B) (agreed .fine) in
-            findings-alike (k .geometry) l flags B C (u .sizes) (passing (stateOf rightTarget C) (agreed .fineʳ) .sizes) (agreed .parts) q o c (sound leftTarget (u .record-sound) .sequence) keeps
+            findings-alike (k .geometry) l flags B C (u .sizes) (passing (stateOf rightTarget C) (agreed .fineʳ) .sizes) (agreed .parts .counts) q o c (sound leftTarget (u .record-sound) .sequence) keeps
 
         cycle-moved : (v : Verdict) → verdict leftTarget (eventOf c) ≡ v → Moved k l (stateOf leftTarget B) (stateOf rightTarget C) (byVerdict v leftTarget (eventOf c) params B flags) (byVerdict v rightTarget (eventOf c) params C flags)
         unfolding byVerdict accepted targetRefused
