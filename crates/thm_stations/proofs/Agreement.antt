@@ -18,7 +18,8 @@ abbrev pub ArrayAgrees : Geometry → ℕ → Buffers → Buffers → Type 0
 ArrayAgrees g l b c = part (b .array) (l * lunBytes g) (lunBytes g) ≡ part (c .array) (l * lunBytes g) (lunBytes g)
 
 abbrev pub RegisterAgrees : Geometry → ℕ → Buffers → Buffers → Type 0
-RegisterAgrees g l b c = part (b .registers) (l * pageSize g) (pageSize g) ≡ part (c .registers) (l * pageSize g) (pageSize g)
+RegisterAgrees g l b c =
+    part (b .registers) (l * pageSize g) (pageSize g) ≡ part (c .registers) (l * pageSize g) (pageSize g)
 
 abbrev pub CountsAgree : Geometry → ℕ → Buffers → Buffers → Type 0
 CountsAgree g l b c = part (b .counts) (l * lunPages g) (lunPages g) ≡ part (c .counts) (l * lunPages g) (lunPages g)
@@ -41,7 +42,8 @@ pub unedited : (g : Geometry) (l : ℕ) (b c : Buffers) → Edited g l b c b c
 unedited g l b c = record { array = as-is; registers = as-is; counts = as-is }
 
 pub edited-flip : {g : Geometry} {l : ℕ} {b c bʹ cʹ : Buffers} → Edited g l b c bʹ cʹ → Edited g l c b cʹ bʹ
-edited-flip e = record { array = edit-flip (e .array); registers = edit-flip (e .registers); counts = edit-flip (e .counts) }
+edited-flip e =
+    record { array = edit-flip (e .array); registers = edit-flip (e .registers); counts = edit-flip (e .counts) }
 
 -- the share's lengths
 array-shares : (g : Geometry) (b : Buffers) → SizesOf g b → length (b .array) ≡ g .luns * lunBytes g

@@ -1,5 +1,5 @@
--- The course of a job through the decoder: each cycle still to come has to do with no LUN but the job's, and after the last no
--- sequence is open. It is told by the views of the open sequence and by the commands' attributes, and names no command.
+-- The course of a job through the decoder: each cycle still to come has to do with no LUN but the job's, and after the last
+-- no sequence is open. It is told by the views of the open sequence and by the commands' attributes, and names no command.
 -- Assumes nothing.
 use mathlib.Core.Path.{_≡_, refl, sym, _∙_}
 use mathlib.Core.Bool.{Bool, true, false, _&&_, not, false≢true}
@@ -101,7 +101,9 @@ CycleOf g l dataOut s o = OutputOf l o
 unfoldable pub Course : Geometry → ℕ → List Cycle → Sequence → Output → Type 0
 Course g l [] s o = s ≡ Idle
 Course g l (c ∷ cs) s o =
-    CycleOf g l c s o × (fits (decoder s o) (eventOf c) ≡ true → Course g l cs (sequenceAfter s (eventOf c)) (outputAfter g l (decoder s o) (eventOf c)))
+    CycleOf g l c s o
+    × (fits (decoder s o) (eventOf c) ≡ true
+    → Course g l cs (sequenceAfter s (eventOf c)) (outputAfter g l (decoder s o) (eventOf c)))
 
 -- a refusal anywhere among the cycles drops sequence and output: those behind it have a course from there too
 unfoldable pub Spared : Geometry → ℕ → List Cycle → Type 0

@@ -1,5 +1,6 @@
--- What an accepted cycle of a job does: its work, its LUN records, its answer and the decoder after it have to do with no LUN but
--- the job's, and are the same for two targets that agree on that LUN. All of it goes by the views of the open sequence.
+-- What an accepted cycle of a job does: its work, its LUN records, its answer and the decoder after it have to do with no
+-- LUN but the job's, and are the same for two targets that agree on that LUN. All of it goes by the views of the open
+-- sequence.
 -- Assumes nothing.
 use mathlib.Core.Path.{_≡_, refl, ap}
 use mathlib.Core.Bool.{Bool, true, false, _&&_, _||_, not, false≢true}
@@ -61,7 +62,8 @@ module _ (g : Geometry) (l : ℕ) where
   unfolding Mine
   acted-mine act.Nothing r found q = tt
   acted-mine act.Load r found q = q
-  acted-mine act.Program r found q = by-pick (Mine g l) (found .proceeds) (work.Program r) work.Nothing (λ _. q) (λ _. tt)
+  acted-mine act.Program r found q =
+      by-pick (Mine g l) (found .proceeds) (work.Program r) work.Nothing (λ _. q) (λ _. tt)
   acted-mine act.Erase r found q = by-pick (Mine g l) (found .proceeds) (work.Erase r) work.Nothing (λ _. q) (λ _. tt)
   acted-mine act.Move r found q = tt
 
@@ -74,17 +76,24 @@ module _ (g : Geometry) (l : ℕ) where
   first-mine : (clear : Bool) → clear ≡ true → (x : FirstFound) → Mine g l (firstWork clear x)
   first-mine clear on first.Nothing = nothing-mine
   first-mine clear on (first.Found f) =
-      by-pick (Mine g l) (clearsRegister f && not clear) work.ClearAll work.Nothing (λ h. absurd (false≢true (rw on at (both (clearsRegister f) (not clear) h .1)))) (λ _. nothing-mine)
+      by-pick (Mine g l) (clearsRegister f && not clear) work.ClearAll work.Nothing
+      (λ h. absurd (false≢true (rw on at (both (clearsRegister f) (not clear) h .1))))
+      (λ _. nothing-mine)
 
-  command-mine : (clear : Bool) → clear ≡ true → (s : Sequence) (v : ℕ) (found : Findings) → EndedOf g l (ending s v) → Mine g l (commandWork clear s v found)
+  command-mine : (clear : Bool) → clear ≡ true → (s : Sequence) (v : ℕ) (found : Findings) → EndedOf g l (ending s v)
+      → Mine g l (commandWork clear s v found)
   command-mine clear on s v found w =
-      by-pick (Mine g l) (isOpen s) (endedWork (ending s v) found) (firstWork clear (firstOf v)) (λ _. ended-mine (ending s v) found w) (λ _. first-mine clear on (firstOf v))
+      by-pick (Mine g l) (isOpen s) (endedWork (ending s v) found) (firstWork clear (firstOf v))
+      (λ _. ended-mine (ending s v) found w)
+      (λ _. first-mine clear on (firstOf v))
 
   address-mine : (clear : Bool) (x : Given) → GivenOf g l x → Mine g l (addressWork g clear x)
   unfolding GivenOf Mine
   address-mine clear given.Nothing w = tt
   address-mine clear (given.Column k) w = tt
-  address-mine clear (given.Row k) w = by-pick (Mine g l) (clearsRegister (k .first) && clear) (work.ClearOne (lunOf g (k .row))) work.Nothing (λ _. w) (λ _. tt)
+  address-mine clear (given.Row k) w =
+      by-pick (Mine g l) (clearsRegister (k .first) && clear) (work.ClearOne (lunOf g (k .row))) work.Nothing (λ _. w)
+      (λ _. tt)
   address-mine clear (given.Single k) w = tt
 
   data-mine : (x : Taker) (v : ℕ) → TakerOf g l x → Mine g l (dataWork g x v)
@@ -93,9 +102,11 @@ module _ (g : Geometry) (l : ℕ) where
   data-mine (taker.Program k) v w = w
   data-mine (taker.Feature k) v w = tt
 
-  pub work-mine : (clear : Bool) → clear ≡ true → (s : Sequence) (o : Output) (c : Cycle) (found : Findings) → CycleOf g l c s o → Mine g l (workOf g clear s (eventOf c) found)
+  pub work-mine : (clear : Bool) → clear ≡ true → (s : Sequence) (o : Output) (c : Cycle) (found : Findings)
+      → CycleOf g l c s o → Mine g l (workOf g clear s (eventOf c) found)
   unfolding CycleOf workOf
-  work-mine clear on s o (command v) found keeps = rw (plainly v (keeps .0) .no-reset) (command-mine clear on s v found (keeps .1))
+  work-mine clear on s o (command v) found keeps =
+      rw (plainly v (keeps .0) .no-reset) (command-mine clear on s v found (keeps .1))
   work-mine clear on s o (address v) found keeps = address-mine clear (completed s v) keeps
   work-mine clear on s o (dataIn v) found keeps = data-mine (taking s) v keeps
   work-mine clear on s o dataOut found keeps = nothing-mine
@@ -103,17 +114,22 @@ module _ (g : Geometry) (l : ℕ) where
   -- The LUN records.
 
   module _ (xs ys : List Lun) (lun : lunAt xs l ≡ lunAt ys l) where
-    begun-changed : (m : ℕ) (fail : Bool) → m ≡ l → Changed l xs ys (set xs m (lunBegun (lunAt xs m) fail)) (set ys m (lunBegun (lunAt ys m) fail))
+    begun-changed : (m : ℕ) (fail : Bool) → m ≡ l
+        → Changed l xs ys (set xs m (lunBegun (lunAt xs m) fail)) (set ys m (lunBegun (lunAt ys m) fail))
     begun-changed m fail q = rw q (become-by (λ (u : Lun). lunBegun u fail) lun)
 
-    ended-changed : (x : Ender) (found : Findings) → EndedOf g l x → Changed l xs ys (endedLuns g xs x found) (endedLuns g ys x found)
+    ended-changed : (x : Ender) (found : Findings) → EndedOf g l x
+        → Changed l xs ys (endedLuns g xs x found) (endedLuns g ys x found)
     unfolding EndedOf
     ended-changed ender.Nothing found w = as-were
-    ended-changed (ender.By k) found w = changed-pick (secondRow (k .second) .starts) (begun-changed (lunOf g (k .row)) (not (found .proceeds)) (w .1))
+    ended-changed (ender.By k) found w =
+        changed-pick (secondRow (k .second) .starts) (begun-changed (lunOf g (k .row)) (not (found .proceeds)) (w .1))
 
-    pub luns-changed : (s : Sequence) (o : Output) (c : Cycle) (found : Findings) → CycleOf g l c s o → Changed l xs ys (lunsAfter g xs s (eventOf c) found) (lunsAfter g ys s (eventOf c) found)
+    pub luns-changed : (s : Sequence) (o : Output) (c : Cycle) (found : Findings) → CycleOf g l c s o
+        → Changed l xs ys (lunsAfter g xs s (eventOf c) found) (lunsAfter g ys s (eventOf c) found)
     unfolding CycleOf lunsAfter
-    luns-changed s o (command v) found keeps = rw (plainly v (keeps .0) .no-reset) (ended-changed (ending s v) found (keeps .1))
+    luns-changed s o (command v) found keeps =
+        rw (plainly v (keeps .0) .no-reset) (ended-changed (ending s v) found (keeps .1))
     luns-changed s o (address v) found keeps = as-were
     luns-changed s o (dataIn v) found keeps = as-were
     luns-changed s o dataOut found keeps = as-were
@@ -127,25 +143,36 @@ module _ (g : Geometry) (l : ℕ) where
 
   first-any : (x : FirstFound) (a b : ℕ) → aimedFound x ≡ true → firstOutput a x ≡ firstOutput b x
   first-any first.Nothing a b h = refl
-  first-any (first.Found f) a b h = rw (not-true (eqb (cyclesOf f) 0) (both (isNobody (waitsFor f)) (not (eqb (cyclesOf f) 0)) h .1))
+  first-any (first.Found f) a b h =
+      rw (not-true (eqb (cyclesOf f) 0) (both (isNobody (waitsFor f)) (not (eqb (cyclesOf f) 0)) h .1))
 
-  command-any : (s : Sequence) (v a b : ℕ) → Plain v → EndedOf g l (ending s v) → commandOutput g a s v ≡ commandOutput g b s v
+  command-any : (s : Sequence) (v a b : ℕ) → Plain v → EndedOf g l (ending s v)
+      → commandOutput g a s v ≡ commandOutput g b s v
   command-any s v a b p w = rw (ended-any (ending s v) a b w, first-any (firstOf v) a b (p .is-aimed))
 
-  output-any : (s : Sequence) (c : Cycle) {cs : List Cycle} {o p : Output} (a b : ℕ) → Standing (c ∷ cs) o p → CycleOf g l c s o → outputAfter g a (decoder s o) (eventOf c) ≡ outputAfter g b (decoder s p) (eventOf c)
+  output-any : (s : Sequence) (c : Cycle) {cs : List Cycle} {o p : Output} (a b : ℕ) → Standing (c ∷ cs) o p
+      → CycleOf g l c s o → outputAfter g a (decoder s o) (eventOf c) ≡ outputAfter g b (decoder s p) (eventOf c)
   unfolding CycleOf outputAfter
-  output-any s (command v) a b standing keeps = rw (plainly v (keeps .0) .no-reset) (command-any s v a b (plainly v (keeps .0)) (keeps .1))
+  output-any s (command v) a b standing keeps =
+      rw (plainly v (keeps .0) .no-reset) (command-any s v a b (plainly v (keeps .0)) (keeps .1))
   output-any s (address v) a b equal keeps = refl
   output-any s (dataIn v) a b equal keeps = refl
   output-any s dataOut a b equal keeps = refl
 
-  pub decoder-alike : (s : Sequence) (c : Cycle) (cs : List Cycle) {o p : Output} (a b : ℕ) → Standing (c ∷ cs) o p → Course g l (c ∷ cs) s o → Spared g l cs → fits (decoder s o) (eventOf c) ≡ true
-      → Alike g l cs (decoder (sequenceAfter s (eventOf c)) (outputAfter g a (decoder s o) (eventOf c))) (decoder (sequenceAfter s (eventOf c)) (outputAfter g b (decoder s p) (eventOf c)))
+  pub decoder-alike : (s : Sequence) (c : Cycle) (cs : List Cycle) {o p : Output} (a b : ℕ) → Standing (c ∷ cs) o p
+      → Course g l (c ∷ cs) s o → Spared g l cs → fits (decoder s o) (eventOf c) ≡ true
+      → Alike g l cs (decoder (sequenceAfter s (eventOf c)) (outputAfter g a (decoder s o) (eventOf c)))
+      (decoder (sequenceAfter s (eventOf c)) (outputAfter g b (decoder s p) (eventOf c)))
   unfolding Course
   decoder-alike s c cs {o} {p} a b standing course spared fit =
       let same = output-any s c a b standing (course .0) in
       let here = output-any s c {cs = cs} a l equal (course .0) in
-      record { sequence = refl; standing = rw (← same) equal; course = rw here (course .1 fit); rest = spared-behind g l cs spared }
+      record {
+        sequence = refl;
+        standing = rw (← same) equal;
+        course = rw here (course .1 fit);
+        rest = spared-behind g l cs spared;
+      }
 
 -- What a second command asks of the buffers: whether it proceeds.
 module _ (g : Geometry) (l : ℕ) (flags : List ℕ) (B C : Buffers) (sizes : SizesOf g B) (sizesʳ : SizesOf g C) (agree : CountsAgree g l B C) where
@@ -154,7 +181,8 @@ module _ (g : Geometry) (l : ℕ) (flags : List ℕ) (B C : Buffers) (sizes : Si
   full-alike r there q = ap (leb (g .programs)) (count-alike g B C sizes sizesʳ r there (rw q agree))
 
   -- a program looks at its page, which exists
-  proceeds-alike : (a : Act) (r : Row) → Reaches g a r → lunOf g r ≡ l → proceeds g a r (B .counts) flags ≡ proceeds g a r (C .counts) flags
+  proceeds-alike : (a : Act) (r : Row) → Reaches g a r → lunOf g r ≡ l
+      → proceeds g a r (B .counts) flags ≡ proceeds g a r (C .counts) flags
   unfolding Reaches
   proceeds-alike act.Nothing r there q = refl
   proceeds-alike act.Load r there q = refl
@@ -162,12 +190,15 @@ module _ (g : Geometry) (l : ℕ) (flags : List ℕ) (B C : Buffers) (sizes : Si
   proceeds-alike act.Erase r there q = refl
   proceeds-alike act.Move r there q = refl
 
-  ended-findings : (x : Ender) → EnderReaches g x → EndedOf g l x → endedFindings g x (B .counts) flags ≡ endedFindings g x (C .counts) flags
+  ended-findings : (x : Ender) → EnderReaches g x → EndedOf g l x
+      → endedFindings g x (B .counts) flags ≡ endedFindings g x (C .counts) flags
   unfolding EndedOf EnderReaches
   ended-findings ender.Nothing there w = refl
-  ended-findings (ender.By k) there w = ap (λ (b : Bool). record { proceeds = b }) (proceeds-alike (secondRow (k .second) .act) (k .row) there (w .1))
+  ended-findings (ender.By k) there w =
+      ap (λ (b : Bool). record { proceeds = b }) (proceeds-alike (secondRow (k .second) .act) (k .row) there (w .1))
 
-  pub findings-alike : (s : Sequence) (o : Output) (c : Cycle) → sequenceSound g s ≡ true → CycleOf g l c s o → findings g s (eventOf c) (B .counts) flags ≡ findings g s (eventOf c) (C .counts) flags
+  pub findings-alike : (s : Sequence) (o : Output) (c : Cycle) → sequenceSound g s ≡ true → CycleOf g l c s o
+      → findings g s (eventOf c) (B .counts) flags ≡ findings g s (eventOf c) (C .counts) flags
   unfolding CycleOf findings
   findings-alike s o (command v) ok keeps = ended-findings (ending s v) (ender-reaches g s v ok) (keeps .1)
   findings-alike s o (address v) ok keeps = refl
@@ -180,18 +211,21 @@ module _ (k : Fixed) (l a b : ℕ) (xs ys : List Lun) (lun : lunAt xs l ≡ lunA
   unfolding statusOf
   status-alike d e = rw lun
 
-  byte-alike : (s : Sequence) (o : Output) → OutputOf l o → outputEnded (k .geometry) o ≡ false → outputByte (made k a xs (decoder s o)) params (B .registers) o ≡ outputByte (made k b ys (decoder s o)) params (C .registers) o
+  byte-alike : (s : Sequence) (o : Output) → OutputOf l o → outputEnded (k .geometry) o ≡ false
+      → outputByte (made k a xs (decoder s o)) params (B .registers) o ≡ outputByte (made k b ys (decoder s o)) params (C .registers) o
   unfolding OutputOf outputByte
   byte-alike s output.Nothing q ended = refl
   byte-alike s (output.Register m c) q ended =
-      rw q (getD-alike (B .registers) (C .registers) (l * pageSize (k .geometry)) (pageSize (k .geometry)) agree (c .0) (leb-false _ _ ended))
+      let size = pageSize (k .geometry) in
+      rw q (getD-alike (B .registers) (C .registers) (l * size) size agree (c .0) (leb-false _ _ ended))
   byte-alike s (output.Parameters at) q ended = absurd q
   byte-alike s (output.Status m) q ended = rw q (status-alike _ _)
   byte-alike s (output.Ids at) q ended = absurd q
   byte-alike s (output.Signature at) q ended = absurd q
   byte-alike s (output.Feature at) q ended = absurd q
 
-  pub reply-alike : (s : Sequence) (c : Cycle) {cs : List Cycle} {o p : Output} → Standing (c ∷ cs) o p → CycleOf (k .geometry) l c s o → pastEnd (k .geometry) (decoder s o) (eventOf c) ≡ false
+  pub reply-alike : (s : Sequence) (c : Cycle) {cs : List Cycle} {o p : Output} → Standing (c ∷ cs) o p
+      → CycleOf (k .geometry) l c s o → pastEnd (k .geometry) (decoder s o) (eventOf c) ≡ false
       → replyOf (made k a xs (decoder s o)) (eventOf c) params (B .registers) ≡ replyOf (made k b ys (decoder s p)) (eventOf c) params (C .registers)
   unfolding CycleOf replyOf pastEnd
   reply-alike s (command v) standing keeps ended = refl
@@ -210,9 +244,12 @@ clear-kept g l clear taker.Nothing w = refl
 clear-kept g l clear (taker.Program k) w = refl
 clear-kept g l clear (taker.Feature k) w = absurd w
 
-pub fixed-kept : (k : Fixed) (l a : ℕ) (xs : List Lun) (s : Sequence) (o p : Output) (c : Cycle) (found : Findings) → CycleOf (k .geometry) l c s o → fixedOf (targetAfter (made k a xs (decoder s p)) (eventOf c) found) ≡ k
+pub fixed-kept : (k : Fixed) (l a : ℕ) (xs : List Lun) (s : Sequence) (o p : Output) (c : Cycle) (found : Findings)
+    → CycleOf (k .geometry) l c s o → fixedOf (targetAfter (made k a xs (decoder s p)) (eventOf c) found) ≡ k
 unfolding CycleOf targetAfter highAfter clearAfter
-fixed-kept k l a xs s o p (command v) found keeps = refixed k (rw (plainly v (keeps .0) .no-reset)) (or-none (k .seen) (plainly v (keeps .0) .no-reset))
+fixed-kept k l a xs s o p (command v) found keeps =
+    refixed k (rw (plainly v (keeps .0) .no-reset)) (or-none (k .seen) (plainly v (keeps .0) .no-reset))
 fixed-kept k l a xs s o p (address v) found keeps = refixed k refl (or-none (k .seen) refl)
-fixed-kept k l a xs s o p (dataIn v) found keeps = refixed k (clear-kept (k .geometry) l (k .clear) (taking s) keeps) (or-none (k .seen) refl)
+fixed-kept k l a xs s o p (dataIn v) found keeps =
+    refixed k (clear-kept (k .geometry) l (k .clear) (taking s) keeps) (or-none (k .seen) refl)
 fixed-kept k l a xs s o p dataOut found keeps = refixed k refl (or-none (k .seen) refl)

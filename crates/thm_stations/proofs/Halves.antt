@@ -39,5 +39,6 @@ made k selected luns d = record {
 }
 
 -- an event that keeps program-clear and the first reset's mark keeps the fixed half
-pub refixed : (k : Fixed) {clear seen : Bool} → clear ≡ k .clear → seen ≡ k .seen → record { powered = k .powered; geometry = k .geometry; words = k .words; ids = k .ids; high = k .high; clear = clear; seen = seen } ≡ k
+pub refixed : (k : Fixed) {clear seen : Bool} → clear ≡ k .clear → seen ≡ k .seen
+    → record { powered = k .powered; geometry = k .geometry; words = k .words; ids = k .ids; high = k .high; clear = clear; seen = seen } ≡ k
 refixed k p q = λ i. record { powered = k .powered; geometry = k .geometry; words = k .words; ids = k .ids; high = k .high; clear = p i; seen = q i }

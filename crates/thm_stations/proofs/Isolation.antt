@@ -33,8 +33,10 @@ module _ (params flags : List ℕ) (s : State) (es : List (Owned Event)) (ok : S
   starts : (l : ℕ) → Agreed params flags k l s s
   starts l = itself params flags k l s refl (ok .fine)
 
-  agree : (l : ℕ) → Agreed params flags k l (end params flags s (serial (s .target .geometry .luns) es)) (end params flags s es)
-  agree = sorted-agree params flags (ties params flags k) (s .target .geometry) lawful some es mix s (starts 0) (ok .closed)
+  agree : (l : ℕ)
+      → Agreed params flags k l (end params flags s (serial (s .target .geometry .luns) es)) (end params flags s es)
+  agree =
+      sorted-agree params flags (ties params flags k) (s .target .geometry) lawful some es mix s (starts 0) (ok .closed)
 
   memory : end params flags s (serial (s .target .geometry .luns) es) .buffers ≡ end params flags s es .buffers
   memory =
@@ -42,7 +44,9 @@ module _ (params flags : List ℕ) (s : State) (es : List (Owned Event)) (ok : S
       shares-all (s .target .geometry) _ _ (sizes-of params flags k _ (near .fixed) (near .fine)) (sizes-of params flags k _ (near .fixedʳ) (near .fineʳ)) (λ l. agree l .parts)
 
   answers : log params flags s (serial (s .target .geometry .luns) es) ≡ serial (s .target .geometry .luns) (log params flags s es)
-  answers = sorted-answers params flags (ties params flags k) (s .target .geometry) lawful some es mix s (starts 0) (ok .closed)
+  answers =
+      sorted-answers params flags (ties params flags k) (s .target .geometry) lawful some es mix s (starts 0)
+      (ok .closed)
 
   isolated : Isolated params flags s es
   isolated = record {

@@ -1,5 +1,5 @@
--- Each whole job keeps to its LUN, from every decoder with no sequence open. The lemmas take the commands that open and close a job
--- as parameters and ask for their attributes: a job of another command is one more line of `job-alike`.
+-- Each whole job keeps to its LUN, from every decoder with no sequence open. The lemmas take the commands that open and
+-- close a job as parameters and ask for their attributes: a job of another command is one more line of `job-alike`.
 -- Assumes nothing.
 use mathlib.Core.Path.{_≡_, refl, sym, _∙_}
 use mathlib.Core.Bool.{Bool, true, false, _&&_, _||_, not}
@@ -45,7 +45,8 @@ pub record Opens (v : ℕ) (f : First) : Type 0 where
   pub is-aimed : aimed f ≡ true
   pub rowed : takesRow f ≡ true
 
-pub opens : {v : ℕ} {f : First} → firstOf v ≡ first.Found f → eqb v 0xff ≡ false → aimed f ≡ true → takesRow f ≡ true → Opens v f
+pub opens : {v : ℕ} {f : First} → firstOf v ≡ first.Found f → eqb v 0xff ≡ false → aimed f ≡ true → takesRow f ≡ true
+    → Opens v f
 opens found no-reset is-aimed rowed = record { found = found; no-reset = no-reset; is-aimed = is-aimed; rowed = rowed }
 
 abbrev pub isMoved : SecondFound → Bool
@@ -70,22 +71,26 @@ asks-nobody : (f : First) → takesRow f ≡ true → asksSelected f ≡ false
 asks-nobody f row = rw row (none-of (needsReady f))
 
 -- what closes a sequence leaves none open
-over-with : (x : SecondFound) (c : Column) (r : Row) (rowed : Bool) → isMoved x ≡ false → endedSequence (endedWith x c r rowed) ≡ Idle
+over-with : (x : SecondFound) (c : Column) (r : Row) (rowed : Bool) → isMoved x ≡ false
+    → endedSequence (endedWith x c r rowed) ≡ Idle
 over-with second.Nothing c r rowed h = refl
 over-with (second.Found s) c r rowed h = rw h
 
-over : (b : Bool) (v : ℕ) (c : Column) (r : Row) (rowed : Bool) → isMoved (secondOf v) ≡ false → endedSequence (pick b (endedBy v c r rowed) ender.Nothing) ≡ Idle
+over : (b : Bool) (v : ℕ) (c : Column) (r : Row) (rowed : Bool) → isMoved (secondOf v) ≡ false
+    → endedSequence (pick b (endedBy v c r rowed) ender.Nothing) ≡ Idle
 over true v c r rowed h = over-with (secondOf v) c r rowed h
 over false v c r rowed h = refl
 
 module _ (g : Geometry) where
   -- a second command has the sequence's row
-  ended-with : (x : SecondFound) (c : Column) (r : Row) (rowed : Bool) → rowed ≡ true → EndedOf g (lunOf g r) (endedWith x c r rowed)
+  ended-with : (x : SecondFound) (c : Column) (r : Row) (rowed : Bool) → rowed ≡ true
+      → EndedOf g (lunOf g r) (endedWith x c r rowed)
   unfolding EndedOf
   ended-with second.Nothing c r rowed h = tt
   ended-with (second.Found s) c r rowed h = (h, refl)
 
-  ended-pick : (b : Bool) (v : ℕ) (c : Column) (r : Row) (rowed : Bool) → rowed ≡ true → EndedOf g (lunOf g r) (pick b (endedBy v c r rowed) ender.Nothing)
+  ended-pick : (b : Bool) (v : ℕ) (c : Column) (r : Row) (rowed : Bool) → rowed ≡ true
+      → EndedOf g (lunOf g r) (pick b (endedBy v c r rowed) ender.Nothing)
   unfolding EndedOf
   ended-pick true v c r rowed h = ended-with (secondOf v) c r rowed h
   ended-pick false v c r rowed h = tt
@@ -95,7 +100,8 @@ module _ (g : Geometry) where
   unfolding EndedOf OutputOf
   ended-output l ender.Nothing w = tt
   ended-output l (ender.By k) w =
-      by-pick (OutputOf l) (secondRow (k .second) .shows) (output.Register (pick (k .rowed) (lunOf g (k .row)) l) (k .column)) output.Nothing (λ _. rw (w .0) (w .1)) (λ _. tt)
+      by-pick (OutputOf l) (secondRow (k .second) .shows)
+      (output.Register (pick (k .rowed) (lunOf g (k .row)) l) (k .column)) output.Nothing (λ _. rw (w .0) (w .1)) (λ _. tt)
 
   -- data out of what is the LUN's
   advanced-of : (l : ℕ) (o : Output) → OutputOf l o → OutputOf l (advanced o)
@@ -120,26 +126,32 @@ module _ (g : Geometry) where
 
   -- a second command, and data out
   second-spared : (l last n : ℕ) → Closes last → Spared g l (command last ∷ replicate n dataOut)
-  second-spared l last n k = spared-command g l (replicate n dataOut) (outs-spared l n) last (k .is-plain) (k .not-first)
+  second-spared l last n k =
+      spared-command g l (replicate n dataOut) (outs-spared l n) last (k .is-plain) (k .not-first)
 
-  closed-course : (l v n : ℕ) (s : Sequence) (o : Output) → plain v ≡ true → EndedOf g l (ending s v) → sequenceAfter s (eventOf (command v)) ≡ Idle → OutputOf l (outputAfter g l (decoder s o) (eventOf (command v)))
+  closed-course : (l v n : ℕ) (s : Sequence) (o : Output) → plain v ≡ true → EndedOf g l (ending s v)
+      → sequenceAfter s (eventOf (command v)) ≡ Idle → OutputOf l (outputAfter g l (decoder s o) (eventOf (command v)))
       → Course g l (command v ∷ replicate n dataOut) s o
   unfolding Course CycleOf
-  closed-course l v n s o known ends idle out = ((known, ends), λ _. rw idle (outs-course l n (outputAfter g l (decoder s o) (eventOf (command v))) out))
+  closed-course l v n s o known ends idle out =
+      ((known, ends), λ _. rw idle (outs-course l n (outputAfter g l (decoder s o) (eventOf (command v))) out))
 
-  due-course : (w : Wait) (last n : ℕ) (o : Output) → takesRow (w .first) ≡ true → Closes last → Course g (lunOf g (w .row)) (command last ∷ replicate n dataOut) (Due w) o
+  due-course : (w : Wait) (last n : ℕ) (o : Output) → takesRow (w .first) ≡ true → Closes last
+      → Course g (lunOf g (w .row)) (command last ∷ replicate n dataOut) (Due w) o
   unfolding sequenceAfter outputAfter
   due-course w last n o row k =
       let l = lunOf g (w .row) in
       let test = eqb last (endOf (w .first)) in
-      let ends : EndedOf g l (ending (Due w) last) = ended-pick test last (w .column) (w .row) (takesRow (w .first)) row in
+      let ends : EndedOf g l (ending (Due w) last) =
+      ended-pick test last (w .column) (w .row) (takesRow (w .first)) row in
       let calm = plainly last (k .is-plain) .no-reset in
       closed-course l last n (Due w) o (k .is-plain) ends
       (rw calm (over test last (w .column) (w .row) (takesRow (w .first)) (k .no-move)))
       (rw calm (ended-output l (ending (Due w) last) ends))
 
   -- the last command of a program
-  last-course : (k : Fill) (last : ℕ) (o : Output) → Closes last → Course g (lunOf g (k .row)) (command last ∷ []) (Filling k) o
+  last-course : (k : Fill) (last : ℕ) (o : Output) → Closes last
+      → Course g (lunOf g (k .row)) (command last ∷ []) (Filling k) o
   unfolding sequenceAfter outputAfter
   last-course k last o h =
       let l = lunOf g (k .row) in
@@ -151,11 +163,13 @@ module _ (g : Geometry) where
       (rw calm (ended-output l (ending (Filling k) last) ends))
 
   -- data and moves before it
-  pieces-course : (k : Fill) (last : ℕ) → Closes last → (ps : List Piece) (o : Output) → Course g (lunOf g (k .row)) (pieces last ps) (Filling k) o
+  pieces-course : (k : Fill) (last : ℕ) → Closes last → (ps : List Piece) (o : Output)
+      → Course g (lunOf g (k .row)) (pieces last ps) (Filling k) o
   unfolding Course CycleOf EndedOf GivenOf TakerOf sequenceAfter outputAfter secondOf secondRow firstOf rowOf
   pieces-course k last h [] o = last-course k last o h
   pieces-course k last h (byte v ∷ ps) o = (refl, λ _. pieces-course _ last h ps o)
-  pieces-course k last h (move b ∷ ps) o = ((refl, (refl, refl)), λ _. (tt, λ _. (refl, λ _. pieces-course _ last h ps output.Nothing)))
+  pieces-course k last h (move b ∷ ps) o =
+      ((refl, (refl, refl)), λ _. (tt, λ _. (refl, λ _. pieces-course _ last h ps output.Nothing)))
 
   -- no move opens a sequence
   pieces-spared : (l last : ℕ) → Closes last → (ps : List Piece) → Spared g l (pieces last ps)
@@ -163,33 +177,47 @@ module _ (g : Geometry) where
   pieces-spared l last h [] = second-spared l last 0 h
   pieces-spared l last h (byte v ∷ ps) = spared-in g l (pieces last ps) (pieces-spared l last h ps) v
   pieces-spared l last h (move b ∷ ps) =
-      spared-command g l _ (spared-address g l _ (spared-address g l _ (pieces-spared l last h ps) (b .high)) (b .low)) 0x85 refl refl
+      spared-command g l _ (spared-address g l _ (spared-address g l _ (pieces-spared l last h ps) (b .high)) (b .low)) 0x85
+      refl refl
+
+  -- a course behind the addresses of a first command
+  abbrev Behind : First → Column → Row → List Cycle → Output → Type 0
+  Behind f c r cs o = Course g (lunOf g r) cs (followed (thenOf f) f c r) (shown (thenOf f) (lunOf g r) 0 o)
 
   -- the addresses of any first command: its row, and the column before it
-  row-course : (f : First) (c : Column) (r : RowBytes) (cs : List Cycle) (o : Output) → Course g (lunOf g (wholeRow r)) cs (followed (thenOf f) f c (wholeRow r)) (shown (thenOf f) (lunOf g (wholeRow r)) 0 o)
-      → Course g (lunOf g (wholeRow r)) (three r cs) (Rows (record { first = f; column = c; got = 0; low = 0; mid = 0 })) o
+  row-course : (f : First) (c : Column) (r : RowBytes) (cs : List Cycle) (o : Output)
+      → Behind f c (wholeRow r) cs o
+      → Course g (lunOf g (wholeRow r)) (three r cs)
+      (Rows (record { first = f; column = c; got = 0; low = 0; mid = 0 })) o
   unfolding Course CycleOf GivenOf sequenceAfter outputAfter
   row-course f c r cs o h = (tt, λ _. (tt, λ _. (refl, λ _. h)))
 
-  column-course : (l : ℕ) (f : First) → takesRow f ≡ true → (c : ColumnBytes) (cs : List Cycle) (o : Output) → Course g l cs (Rows (record { first = f; column = columnFrom (c .low) (c .high); got = 0; low = 0; mid = 0 })) o
+  column-course : (l : ℕ) (f : First) → takesRow f ≡ true → (c : ColumnBytes) (cs : List Cycle) (o : Output)
+      → Course g l cs (Rows (record { first = f; column = columnFrom (c .low) (c .high); got = 0; low = 0; mid = 0 })) o
       → Course g l (two c cs) (Columns (record { first = f; got = 0; low = 0 })) o
   unfolding Course CycleOf GivenOf sequenceAfter outputAfter
   column-course l f row c cs o h = (tt, λ _. (asks-nobody f row, λ _. rw row h))
 
   spared-row : (l : ℕ) (r : RowBytes) (cs : List Cycle) → Spared g l cs → Spared g l (three r cs)
-  spared-row l r cs h = spared-address g l _ (spared-address g l _ (spared-address g l cs h (r .high)) (r .mid)) (r .low)
+  spared-row l r cs h =
+      spared-address g l _ (spared-address g l _ (spared-address g l cs h (r .high)) (r .mid)) (r .low)
 
   spared-column : (l : ℕ) (c : ColumnBytes) (cs : List Cycle) → Spared g l cs → Spared g l (two c cs)
   spared-column l c cs h = spared-address g l _ (spared-address g l cs h (c .high)) (c .low)
 
   -- the sequence that a first command opens, and no output
-  opened-course : (l v : ℕ) (f : First) (cs : List Cycle) (o : Output) → Opens v f → Course g l cs (started f) output.Nothing
-      → Course g l cs (sequenceAfter Idle (eventOf (command v))) (outputAfter g l (decoder Idle o) (eventOf (command v)))
+  opened-course : (l v : ℕ) (f : First) (cs : List Cycle) (o : Output) → Opens v f
+      → Course g l cs (started f) output.Nothing
+      → Course g l cs (sequenceAfter Idle (eventOf (command v)))
+      (outputAfter g l (decoder Idle o) (eventOf (command v)))
   unfolding sequenceAfter outputAfter
-  opened-course l v f cs o k h = rw (k .no-reset, k .found, not-true (eqb (cyclesOf f) 0) (both (isNobody (waitsFor f)) (not (eqb (cyclesOf f) 0)) (k .is-aimed) .1)) h
+  opened-course l v f cs o k h =
+      let addresses = both (isNobody (waitsFor f)) (not (eqb (cyclesOf f) 0)) (k .is-aimed) .1 in
+      rw (k .no-reset, k .found, not-true (eqb (cyclesOf f) 0) addresses) h
 
   -- a job from its first command on, whatever was put out before
-  begun : (l v : ℕ) (f : First) (cs : List Cycle) {d e : Decoder} → Opens v f → Quiet d → Quiet e → Course g l cs (started f) output.Nothing → Spared g l cs → Alike g l (command v ∷ cs) d e
+  begun : (l v : ℕ) (f : First) (cs : List Cycle) {d e : Decoder} → Opens v f → Quiet d → Quiet e
+      → Course g l cs (started f) output.Nothing → Spared g l cs → Alike g l (command v ∷ cs) d e
   unfolding Course CycleOf EndedOf
   begun l v f cs {d} k p q course spared = record {
     sequence = p ∙ sym q;
@@ -200,16 +228,19 @@ module _ (g : Geometry) where
 
   module _ (v : ℕ) (f : First) (opens : Opens v f) (r : RowBytes) (cs : List Cycle) {d e : Decoder} (p : Quiet d) (q : Quiet e) (spared : Spared g (lunOf g (wholeRow r)) cs) where
     -- a command with five address cycles, and one with three
-    five : takesColumn f ≡ true → (c : ColumnBytes) → Course g (lunOf g (wholeRow r)) cs (followed (thenOf f) f (columnFrom (c .low) (c .high)) (wholeRow r)) (shown (thenOf f) (lunOf g (wholeRow r)) 0 output.Nothing)
+    five : takesColumn f ≡ true → (c : ColumnBytes)
+        → Behind f (columnFrom (c .low) (c .high)) (wholeRow r) cs output.Nothing
         → Alike g (lunOf g (wholeRow r)) (command v ∷ two c (three r cs)) d e
     five column c h =
         let l = lunOf g (wholeRow r) in
         let at = columnFrom (c .low) (c .high) in
         begun l v f (two c (three r cs)) opens p q
-        (rw column (column-course l f (opens .rowed) c (three r cs) output.Nothing (row-course f at r cs output.Nothing h)))
+        (rw column
+        (column-course l f (opens .rowed) c (three r cs) output.Nothing (row-course f at r cs output.Nothing h)))
         (spared-column l c (three r cs) (spared-row l r cs spared))
 
-    three-only : takesColumn f ≡ false → Course g (lunOf g (wholeRow r)) cs (followed (thenOf f) f (record { 0 = 0 }) (wholeRow r)) (shown (thenOf f) (lunOf g (wholeRow r)) 0 output.Nothing)
+    three-only : takesColumn f ≡ false
+        → Behind f (record { 0 = 0 }) (wholeRow r) cs output.Nothing
         → Alike g (lunOf g (wholeRow r)) (command v ∷ three r cs) d e
     three-only column h =
         let l = lunOf g (wholeRow r) in
@@ -218,12 +249,14 @@ module _ (g : Geometry) where
         (spared-row l r cs spared)
 
   -- what follows the addresses: a second command and data out, a program's data, or data out of a status
-  second-follows : (f : First) (c : Column) (r : Row) (last n : ℕ) → thenOf f ≡ then.Second → takesRow f ≡ true → Closes last
-      → Course g (lunOf g r) (command last ∷ replicate n dataOut) (followed (thenOf f) f c r) (shown (thenOf f) (lunOf g r) 0 output.Nothing)
-  second-follows f c r last n then row k = rw then (due-course (record { first = f; column = c; row = r }) last n output.Nothing row k)
+  second-follows : (f : First) (c : Column) (r : Row) (last n : ℕ) → thenOf f ≡ then.Second → takesRow f ≡ true
+      → Closes last
+      → Behind f c r (command last ∷ replicate n dataOut) output.Nothing
+  second-follows f c r last n then row k =
+      rw then (due-course (record { first = f; column = c; row = r }) last n output.Nothing row k)
 
   data-follows : (f : First) (c : Column) (r : Row) (last : ℕ) (ps : List Piece) → thenOf f ≡ then.Data → Closes last
-      → Course g (lunOf g r) (pieces last ps) (followed (thenOf f) f c r) (shown (thenOf f) (lunOf g r) 0 output.Nothing)
+      → Behind f c r (pieces last ps) output.Nothing
   data-follows f c r last ps then k = rw then (pieces-course _ last k ps output.Nothing)
 
   status-of : (l : ℕ) → OutputOf l (output.Status l)
@@ -231,7 +264,7 @@ module _ (g : Geometry) where
   status-of l = refl
 
   status-follows : (f : First) (c : Column) (r : Row) (n : ℕ) → thenOf f ≡ then.Status
-      → Course g (lunOf g r) (replicate n dataOut) (followed (thenOf f) f c r) (shown (thenOf f) (lunOf g r) 0 output.Nothing)
+      → Behind f c r (replicate n dataOut) output.Nothing
   status-follows f c r n then = rw then (outs-course (lunOf g r) n (output.Status (lunOf g r)) (status-of (lunOf g r)))
 
   -- The jobs, by the commands that open and close them.
@@ -246,7 +279,8 @@ module _ (g : Geometry) where
 
   -- a command with a row alone, and its second command
   pub three-second : (v last : ℕ) (f : First) → Opens v f → takesColumn f ≡ false → thenOf f ≡ then.Second → Closes last
-      → (r : RowBytes) {d e : Decoder} → Quiet d → Quiet e → Alike g (lunOf g (wholeRow r)) (command v ∷ three r (command last ∷ [])) d e
+      → (r : RowBytes) {d e : Decoder} → Quiet d → Quiet e
+      → Alike g (lunOf g (wholeRow r)) (command v ∷ three r (command last ∷ [])) d e
   three-second v last f k column then z r p q =
       three-only v f k r (command last ∷ []) p q (second-spared (lunOf g (wholeRow r)) last 0 z) column
       (second-follows f (record { 0 = 0 }) (wholeRow r) last 0 then (k .rowed) z)
@@ -261,7 +295,8 @@ module _ (g : Geometry) where
 
   -- a status: a row, and data out
   pub three-status : (v : ℕ) (f : First) → Opens v f → takesColumn f ≡ false → thenOf f ≡ then.Status
-      → (r : RowBytes) (n : ℕ) {d e : Decoder} → Quiet d → Quiet e → Alike g (lunOf g (wholeRow r)) (command v ∷ three r (replicate n dataOut)) d e
+      → (r : RowBytes) (n : ℕ) {d e : Decoder} → Quiet d → Quiet e
+      → Alike g (lunOf g (wholeRow r)) (command v ∷ three r (replicate n dataOut)) d e
   three-status v f k column then r n p q =
       three-only v f k r (replicate n dataOut) p q (outs-spared (lunOf g (wholeRow r)) n) column
       (status-follows f (record { 0 = 0 }) (wholeRow r) n then)
@@ -269,8 +304,11 @@ module _ (g : Geometry) where
 -- each job's commands have these attributes
 pub job-alike : (g : Geometry) (j : Job) {d e : Decoder} → Quiet d → Quiet e → Alike g (lunNamed g j) (cycles j) d e
 unfolding cycles rowOf firstOf secondRow secondOf classOf
-job-alike g (read c r) p q = five-second g _ _ Read (opens refl refl refl refl) refl refl (closes refl refl refl) c r 0 p q
-job-alike g (readOut c r n) p q = five-second g _ _ ChangeColumnEnhanced (opens refl refl refl refl) refl refl (closes refl refl refl) c r n p q
-job-alike g (program c r ps) p q = five-data g _ _ Program (opens refl refl refl refl) refl refl (closes refl refl refl) c r ps p q
+job-alike g (read c r) p q =
+    five-second g _ _ Read (opens refl refl refl refl) refl refl (closes refl refl refl) c r 0 p q
+job-alike g (readOut c r n) p q =
+    five-second g _ _ ChangeColumnEnhanced (opens refl refl refl refl) refl refl (closes refl refl refl) c r n p q
+job-alike g (program c r ps) p q =
+    five-data g _ _ Program (opens refl refl refl refl) refl refl (closes refl refl refl) c r ps p q
 job-alike g (erase r) p q = three-second g _ _ Erase (opens refl refl refl refl) refl refl (closes refl refl refl) r p q
 job-alike g (status r n) p q = three-status g _ StatusEnhanced (opens refl refl refl refl) refl refl r n p q

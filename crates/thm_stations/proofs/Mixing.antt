@@ -27,7 +27,8 @@ module _ (params flags : List ℕ) (t : Ties) where
   module _ (g : Geometry) (laws : Laws params flags g t) (l : ℕ) where
     -- an event of the l-th LUN, and one of another
     module _ (s u : State) (x : Owned Event) (es : List (Owned Event)) where
-      met : x .own ≡ l → t .Agree l s u → t .Moves l s u (x .it) → Seen l (next params flags s (x .it)) (next params flags u (x .it)) es → Seen l s u (x ∷ es)
+      met : x .own ≡ l → t .Agree l s u → t .Moves l s u (x .it)
+          → Seen l (next params flags s (x .it)) (next params flags u (x .it)) es → Seen l s u (x ∷ es)
       unfolding log end after
       met q a m p =
           let hit = those-hit l x es q in
@@ -70,9 +71,11 @@ module _ (params flags : List ℕ) (t : Ties) where
       | no q ↦ other (λ r. q (sym r)) (laws .begins j (h .0) (h .0)) (h .1)
     ]
 
-    pub project : {o : ℕ} {cs : List Cycle} {es : List (Owned Event)} → Mix g o cs es → o < g .luns → (s u : State) → t .Agree l s u → Held o cs (decoderOf s) (decoderOf u) → Seen l s u es
+    pub project : {o : ℕ} {cs : List Cycle} {es : List (Owned Event)} → Mix g o cs es → o < g .luns → (s u : State)
+        → t .Agree l s u → Held o cs (decoderOf s) (decoderOf u) → Seen l s u es
     unfolding those log end after
-    project over there s u a h = record { answers = refl; agree = a; elsewhere = λ k ne. laws .itself k (laws .flip a); quiet = at-rest h .0; quietʳ = at-rest h .1 }
+    project over there s u a h =
+        record { answers = refl; agree = a; elsewhere = λ k ne. laws .itself k (laws .flip a); quiet = at-rest h .0; quietʳ = at-rest h .1 }
     project (start j jt mix) there s u a h = project mix jt s u a (restart j (at-rest h))
     project (cycle {o = o} {c = c} {es = es} mix) there s u a (mine q d) =
         let lt : l < g .luns = rw (← q) there in

@@ -49,28 +49,41 @@ burns (Erase r) = false
 
 module _ (g : Geometry) (b c : Buffers) (sizes : SizesOf g b) (sizesʳ : SizesOf g c) where
   -- the page and the count of a row
-  page-alike : (r : Row) → rowExists g r ≡ true → ArrayAgrees g (lunOf g r) b c → part (b .array) (pageIndex g r * pageSize g) (pageSize g) ≡ part (c .array) (pageIndex g r * pageSize g) (pageSize g)
-  page-alike r there a = parts-alike (b .array) (c .array) (lunOf g r * lunBytes g) (lunBytes g) a _ (pageSize g) (page-bytes-low g r) (page-bytes-high g r there)
+  page-alike : (r : Row) → rowExists g r ≡ true → ArrayAgrees g (lunOf g r) b c
+      → part (b .array) (pageIndex g r * pageSize g) (pageSize g) ≡ part (c .array) (pageIndex g r * pageSize g) (pageSize g)
+  page-alike r there a =
+      parts-alike (b .array) (c .array) (lunOf g r * lunBytes g) (lunBytes g) a _ (pageSize g) (page-bytes-low g r)
+      (page-bytes-high g r there)
 
-  pub count-alike : (r : Row) → rowExists g r ≡ true → CountsAgree g (lunOf g r) b c → getD (b .counts) (pageIndex g r) 0 ≡ getD (c .counts) (pageIndex g r) 0
+  pub count-alike : (r : Row) → rowExists g r ≡ true → CountsAgree g (lunOf g r) b c
+      → getD (b .counts) (pageIndex g r) 0 ≡ getD (c .counts) (pageIndex g r) 0
   count-alike r there a = rw (page-place g r) (getD-alike (b .counts) (c .counts) (lunOf g r * lunPages g) (lunPages g) a (pageWithin g r) (page-within g r there))
 
   -- a whole register is replaced
-  replaced : (l : ℕ) (new newʳ : List ℕ) → new ≡ newʳ → length new ≡ pageSize g → Edit (pageSize g) l (b .registers) (c .registers) (splice (b .registers) (l * pageSize g) (pageSize g) new) (splice (c .registers) (l * pageSize g) (pageSize g) newʳ)
+  replaced : (l : ℕ) (new newʳ : List ℕ) → new ≡ newʳ → length new ≡ pageSize g
+      → Edit (pageSize g) l (b .registers) (c .registers) (splice (b .registers) (l * pageSize g) (pageSize g) new) (splice (c .registers) (l * pageSize g) (pageSize g) newʳ)
   replaced l new newʳ e same = put-alike (l * pageSize g) (pageSize g) new newʳ e (le-refl _) (le-refl _) same
 
   register-length : (l : ℕ) → l < g .luns → length (part (b .registers) (l * pageSize g) (pageSize g)) ≡ pageSize g
-  register-length l h = part-length (b .registers) (l * pageSize g) (pageSize g) (omega (arith, piece (pageSize g) h, sizes .registers-size))
+  register-length l h =
+      part-length (b .registers) (l * pageSize g) (pageSize g)
+      (omega (arith, piece (pageSize g) h, sizes .registers-size))
 
-  page-length : (r : Row) → rowExists g r ≡ true → length (part (b .array) (pageIndex g r * pageSize g) (pageSize g)) ≡ pageSize g
-  page-length r there = part-length (b .array) (pageIndex g r * pageSize g) (pageSize g) (omega (arith, page-bytes-end g r there, sizes .array-size))
+  page-length : (r : Row) → rowExists g r ≡ true
+      → length (part (b .array) (pageIndex g r * pageSize g) (pageSize g)) ≡ pageSize g
+  page-length r there =
+      part-length (b .array) (pageIndex g r * pageSize g) (pageSize g)
+      (omega (arith, page-bytes-end g r there, sizes .array-size))
 
-  pub registers-edit : (w : Work) (l : ℕ) → Ready g w (b .counts) → Mine g l w → ArrayAgrees g l b c → RegisterAgrees g l b c → Edit (pageSize g) l (b .registers) (c .registers) (registersAfter g w (b .array) (b .registers)) (registersAfter g w (c .array) (c .registers))
+  pub registers-edit : (w : Work) (l : ℕ) → Ready g w (b .counts) → Mine g l w → ArrayAgrees g l b c
+      → RegisterAgrees g l b c
+      → Edit (pageSize g) l (b .registers) (c .registers) (registersAfter g w (b .array) (b .registers)) (registersAfter g w (c .array) (c .registers))
   unfolding registersAfter Ready Mine
   registers-edit Nothing l ok mine a own = as-is
   registers-edit ClearAll l ok mine a own = absurd mine
   registers-edit (ClearOne m) l ok mine a own = rw (← mine) (replaced m _ _ refl (length-replicate (pageSize g) 0xff))
-  registers-edit (Load r) l ok mine a own = rw (← mine) (replaced (lunOf g r) _ _ (page-alike r ok (rw mine a)) (page-length r ok))
+  registers-edit (Load r) l ok mine a own =
+      rw (← mine) (replaced (lunOf g r) _ _ (page-alike r ok (rw mine a)) (page-length r ok))
   registers-edit (Put m k v) l ok mine a own =
       let here : RegisterAgrees g m b c = rw mine own in
       rw (← mine)
@@ -78,7 +91,9 @@ module _ (g : Geometry) (b c : Buffers) (sizes : SizesOf g b) (sizesʳ : SizesOf
   registers-edit (Program r) l ok mine a own = as-is
   registers-edit (Erase r) l ok mine a own = as-is
 
-  pub array-edit : (w : Work) (l : ℕ) → Ready g w (b .counts) → Mine g l w → ArrayAgrees g l b c → (burns w ≡ true → RegisterAgrees g l b c) → Edit (lunBytes g) l (b .array) (c .array) (arrayAfter g w (b .array) (b .registers)) (arrayAfter g w (c .array) (c .registers))
+  pub array-edit : (w : Work) (l : ℕ) → Ready g w (b .counts) → Mine g l w → ArrayAgrees g l b c
+      → (burns w ≡ true → RegisterAgrees g l b c)
+      → Edit (lunBytes g) l (b .array) (c .array) (arrayAfter g w (b .array) (b .registers)) (arrayAfter g w (c .array) (c .registers))
   unfolding arrayAfter Ready Mine
   array-edit Nothing l ok mine a own = as-is
   array-edit ClearAll l ok mine a own = absurd mine
@@ -94,7 +109,8 @@ module _ (g : Geometry) (b c : Buffers) (sizes : SizesOf g b) (sizesʳ : SizesOf
   array-edit (Erase r) l ok mine a own =
       rw (← mine) (put _ (g .pages * pageSize g) _ (block-bytes-low g r) (block-bytes-high g r ok) (length-replicate _ _))
 
-  pub counts-edit : (w : Work) (l : ℕ) → Ready g w (b .counts) → Mine g l w → CountsAgree g l b c → Edit (lunPages g) l (b .counts) (c .counts) (countsAfter g w (b .counts)) (countsAfter g w (c .counts))
+  pub counts-edit : (w : Work) (l : ℕ) → Ready g w (b .counts) → Mine g l w → CountsAgree g l b c
+      → Edit (lunPages g) l (b .counts) (c .counts) (countsAfter g w (b .counts)) (countsAfter g w (c .counts))
   unfolding countsAfter Ready Mine
   counts-edit Nothing l ok mine a = as-is
   counts-edit ClearAll l ok mine a = absurd mine
@@ -108,8 +124,11 @@ module _ (g : Geometry) (b c : Buffers) (sizes : SizesOf g b) (sizesʳ : SizesOf
       let room = page-below g r (ok .0) in
       rw (← mine, ← count-alike r (ok .0) here, set-splice (b .counts) at new (omega (arith, sizes .counts-size)), set-splice (c .counts) at new (omega (arith, sizesʳ .counts-size)))
       (put at 1 (new ∷ []) (page-low g r) (page-high g r (ok .0)) refl)
-  counts-edit (Erase r) l ok mine a = rw (← mine) (put _ (g .pages) _ (block-low g r) (block-high g r ok) (length-replicate _ _))
+  counts-edit (Erase r) l ok mine a =
+      rw (← mine) (put _ (g .pages) _ (block-low g r) (block-high g r ok) (length-replicate _ _))
 
-  pub worked-edited : (w : Work) (l : ℕ) → Ready g w (b .counts) → Mine g l w → Parts g l b c → Edited g l b c (worked g w b) (worked g w c)
+  pub worked-edited : (w : Work) (l : ℕ) → Ready g w (b .counts) → Mine g l w → Parts g l b c
+      → Edited g l b c (worked g w b) (worked g w c)
   unfolding worked
-  worked-edited w l ok mine a = record { array = array-edit w l ok mine (a .array) (λ _. a .registers); registers = registers-edit w l ok mine (a .array) (a .registers); counts = counts-edit w l ok mine (a .counts) }
+  worked-edited w l ok mine a =
+      record { array = array-edit w l ok mine (a .array) (λ _. a .registers); registers = registers-edit w l ok mine (a .array) (a .registers); counts = counts-edit w l ok mine (a .counts) }

@@ -36,12 +36,14 @@ use Rattle.thm_stations.specs.Reached.{FromPowerOn}
 use Rattle.thm_stations.proofs.Isolation.{isolation}
 
 -- as many LUN records as before
-ended-count : (g : Geometry) (luns : List Lun) (x : Ender) (found : Findings) → length (endedLuns g luns x found) ≡ length luns
+ended-count : (g : Geometry) (luns : List Lun) (x : Ender) (found : Findings)
+    → length (endedLuns g luns x found) ≡ length luns
 ended-count g luns ender.Nothing found = refl
 ended-count g luns (ender.By k) found =
     by-pick (λ (y : List Lun). length y ≡ length luns) (secondRow (k .second) .starts) (begun g luns (k .row) (not (found .proceeds))) luns (λ _. length-set luns _ _) (λ _. refl)
 
-luns-four : (g : Geometry) (luns : List Lun) (s : Sequence) (e : Event) (found : Findings) → length luns ≡ 4 → length (lunsAfter g luns s e found) ≡ 4
+luns-four : (g : Geometry) (luns : List Lun) (s : Sequence) (e : Event) (found : Findings) → length luns ≡ 4
+    → length (lunsAfter g luns s e found) ≡ 4
 unfolding lunsAfter
 luns-four g luns s e found h =
     let l1 = pick (eqb (e .kind) 4) (finished luns (e .value)) luns in
@@ -56,19 +58,23 @@ module _ (t : Target) (e : Event) (page : List ℕ) (b : Buffers) (flags : List 
   verdict-four verdicts.Accepted = luns-four (t .geometry) (t .luns) (t .decoder .sequence) e _ h
   verdict-four (verdicts.Refused r) = h
 
-  pick-four : (ok : Bool) → length (pick ok (steady t e page b flags) (record { reply = reply.Refused refusal.NotUsable; target = t; buffers = b }) .target .luns) ≡ 4
+  pick-four : (ok : Bool)
+      → length (pick ok (steady t e page b flags) (record { reply = reply.Refused refusal.NotUsable; target = t; buffers = b }) .target .luns) ≡ 4
   unfolding steady
   pick-four true = verdict-four (verdict t e)
   pick-four false = h
 
   step-four : length (stepOf t e page b flags .target .luns) ≡ 4
   unfolding stepOf
-  step-four = pick-four (usable t (length page) (length (b .array)) (length (b .registers)) (length (b .counts)) (length flags))
+  step-four =
+      pick-four (usable t (length page) (length (b .array)) (length (b .registers)) (length (b .counts)) (length flags))
 
-run-four : (page flags : List ℕ) (es : List Event) (s : State) → length (s .target .luns) ≡ 4 → length (after page flags es s .target .luns) ≡ 4
+run-four : (page flags : List ℕ) (es : List Event) (s : State) → length (s .target .luns) ≡ 4
+    → length (after page flags es s .target .luns) ≡ 4
 unfolding after
 run-four page flags [] s h = h
-run-four page flags (e ∷ es) s h = run-four page flags es (left (stepAt page flags s e)) (step-four (s .target) e page (s .buffers) flags h)
+run-four page flags (e ∷ es) s h =
+    run-four page flags es (left (stepAt page flags s e)) (step-four (s .target) e page (s .buffers) flags h)
 
 powered-four : (page : List ℕ) (device : ℕ) → length (poweredOf page device .luns) ≡ 4
 unfolding poweredOf

@@ -18,14 +18,16 @@ use Rattle.thm_stations.proofs.Mixing.{Seen, mine, other, project}
 
 module _ (params flags : List ℕ) where
   -- runs of two parts
-  log-append : (s : State) (es fs : List (Owned Event)) → log params flags s (es ++ fs) ≡ log params flags s es ++ log params flags (end params flags s es) fs
+  log-append : (s : State) (es fs : List (Owned Event))
+      → log params flags s (es ++ fs) ≡ log params flags s es ++ log params flags (end params flags s es) fs
   unfolding log end after
   log-append s [] fs = refl
   log-append s (x ∷ es) fs =
       ap (λ (r : List (Owned Told)). record { own = x .own; it = record { event = x .it; reply = stepAt params flags s (x .it) .reply } } ∷ r)
       (log-append (next params flags s (x .it)) es fs)
 
-  end-append : (s : State) (es fs : List (Owned Event)) → end params flags s (es ++ fs) ≡ end params flags (end params flags s es) fs
+  end-append : (s : State) (es fs : List (Owned Event))
+      → end params flags s (es ++ fs) ≡ end params flags (end params flags s es) fs
   unfolding end after
   end-append s [] fs = refl
   end-append s (x ∷ es) fs = end-append (next params flags s (x .it)) es fs
@@ -38,7 +40,8 @@ module _ (params flags : List ℕ) where
 
   module _ (t : Ties) (g : Geometry) (laws : Laws params flags g t) (some : 0 < g .luns) (es : List (Owned Event)) (mix : Mixture g es) where
     -- the mixture seen from the l-th LUN, from two states between jobs that agree there
-    pub seen : (l : ℕ) (s u : State) → t .Agree l s u → Quiet (decoderOf s) → Quiet (decoderOf u) → Seen params flags t l s u es
+    pub seen : (l : ℕ) (s u : State) → t .Agree l s u → Quiet (decoderOf s) → Quiet (decoderOf u)
+        → Seen params flags t l s u es
     seen l s u a q r = elim (ℕ-discrete 0 l) [
       | yes e ↦ project params flags t g laws l mix some s u a (mine e (laws .rests q r))
       | no e ↦ project params flags t g laws l mix some s u a (other (λ z. e (sym z)) (laws .rests q q) r)

@@ -44,7 +44,8 @@ module _ (g : Geometry) (r : Row) where
   -- a page's count
   pub page-place : pageIndex g r ≡ lunOf g r * lunPages g + pageWithin
   unfolding pageWithin
-  page-place = rw (page-parts g r, block-parts g r, split (lunOf g r) (g .blocks) (blockOf g r) (g .pages)) (add-assoc _ _ _)
+  page-place =
+      rw (page-parts g r, block-parts g r, split (lunOf g r) (g .blocks) (blockOf g r) (g .pages)) (add-assoc _ _ _)
 
   pub page-low : lunOf g r * lunPages g ≤ pageIndex g r
   page-low = omega (arith, page-place)

@@ -63,15 +63,19 @@ is-bus dataOut = refl
 
 accepted-fits : (t : Target) (c : Cycle) → verdict t (eventOf c) ≡ Accepted → fits (t .decoder) (eventOf c) ≡ true
 unfolding misplaced
-accepted-fits t c held = meant (isBus (eventOf c)) (fits (t .decoder) (eventOf c)) (all-passed t (eventOf c) held .rule-3) (is-bus c)
+accepted-fits t c held =
+    meant (isBus (eventOf c)) (fits (t .decoder) (eventOf c)) (all-passed t (eventOf c) held .rule-3) (is-bus c)
 
 module _ (params flags : List ℕ) where
   -- what rule 13 lets pass
-  pub passing : (s : State) → Fine params flags s → Passes (s .target) params (s .buffers .array) (s .buffers .registers) (s .buffers .counts) flags
-  passing s fine = passes (s .target) params (s .buffers .array) (s .buffers .registers) (s .buffers .counts) flags (fine .passes)
+  pub passing : (s : State) → Fine params flags s
+      → Passes (s .target) params (s .buffers .array) (s .buffers .registers) (s .buffers .counts) flags
+  passing s fine =
+      passes (s .target) params (s .buffers .array) (s .buffers .registers) (s .buffers .counts) flags (fine .passes)
 
   -- there the outcome goes by the verdict
-  by-verdict : (s : State) (e : Event) → Fine params flags s → stepAt params flags s e ≡ byVerdict (verdict (s .target) e) (s .target) e params (s .buffers) flags
+  by-verdict : (s : State) (e : Event) → Fine params flags s
+      → stepAt params flags s e ≡ byVerdict (verdict (s .target) e) (s .target) e params (s .buffers) flags
   unfolding steady
   by-verdict s e fine = step-steady (s .target) e params (s .buffers) flags (fine .passes)
 
@@ -94,7 +98,8 @@ module _ (params flags : List ℕ) where
       rightTarget = made k b ys (decoder q p)
 
       module _ (agreed : Agreed k l (stateOf leftTarget B) (stateOf rightTarget C)) (standing : Standing (c ∷ cs) o p) (keeps : CycleOf (k .geometry) l c q o) where
-        cycle-accepted : verdict leftTarget (eventOf c) ≡ Accepted → (found : Findings) → found ≡ findings (k .geometry) q (eventOf c) (B .counts) flags
+        cycle-accepted : verdict leftTarget (eventOf c) ≡ Accepted → (found : Findings)
+            → found ≡ findings (k .geometry) q (eventOf c) (B .counts) flags
             → Moved k l (stateOf leftTarget B) (stateOf rightTarget C) (acceptedBy leftTarget (eventOf c) params B found) (acceptedBy rightTarget (eventOf c) params C found)
         unfolding acceptedBy targetAfter
         cycle-accepted held found told =
@@ -118,22 +123,27 @@ module _ (params flags : List ℕ) where
             let u = passing (stateOf leftTarget B) (agreed .fine) in
             findings-alike (k .geometry) l flags B C (u .sizes) (passing (stateOf rightTarget C) (agreed .fineʳ) .sizes) (agreed .parts .counts) q o c (sound leftTarget (u .record-sound) .sequence) keeps
 
-        cycle-moved : (v : Verdict) → verdict leftTarget (eventOf c) ≡ v → Moved k l (stateOf leftTarget B) (stateOf rightTarget C) (byVerdict v leftTarget (eventOf c) params B flags) (byVerdict v rightTarget (eventOf c) params C flags)
+        cycle-moved : (v : Verdict) → verdict leftTarget (eventOf c) ≡ v
+            → Moved k l (stateOf leftTarget B) (stateOf rightTarget C) (byVerdict v leftTarget (eventOf c) params B flags) (byVerdict v rightTarget (eventOf c) params C flags)
         unfolding byVerdict accepted targetRefused
         cycle-moved Accepted held = rw (← same-findings) (cycle-accepted held _ refl)
-        cycle-moved (Refused r) held = record { reply = refl; luns = as-were; buffers = unedited (k .geometry) l B C; fixed = refl; fixedʳ = refl }
+        cycle-moved (Refused r) held =
+            record { reply = refl; luns = as-were; buffers = unedited (k .geometry) l B C; fixed = refl; fixedʳ = refl }
 
-      cycle-decoder : Standing (c ∷ cs) o p → Course (k .geometry) l (c ∷ cs) q o → Spared (k .geometry) l cs → (v : Verdict) → verdict leftTarget (eventOf c) ≡ v
+      cycle-decoder : Standing (c ∷ cs) o p → Course (k .geometry) l (c ∷ cs) q o → Spared (k .geometry) l cs
+          → (v : Verdict) → verdict leftTarget (eventOf c) ≡ v
           → Alike (k .geometry) l cs (byVerdict v leftTarget (eventOf c) params B flags .target .decoder) (byVerdict v rightTarget (eventOf c) params C flags .target .decoder)
       unfolding byVerdict accepted acceptedBy targetAfter
-      cycle-decoder standing course spared Accepted held = decoder-alike (k .geometry) l q c cs a b standing course spared (accepted-fits leftTarget c held)
+      cycle-decoder standing course spared Accepted held =
+          decoder-alike (k .geometry) l q c cs a b standing course spared (accepted-fits leftTarget c held)
       cycle-decoder standing course spared (Refused r) held =
           rw (refused-decoder leftTarget c, refused-decoder rightTarget c)
           (record { sequence = refl; standing = equal; course = spared-all (k .geometry) l cs spared; rest = spared-behind (k .geometry) l cs spared })
 
     -- a finish event of the l-th LUN, whatever the decoders
     module _ (a b : ℕ) (xs ys : List Lun) (d e : Decoder) (B C : Buffers) (lun : lunAt xs l ≡ lunAt ys l) where
-      finish-moved : (v : Verdict) → Moved k l (stateOf (made k a xs d) B) (stateOf (made k b ys e) C) (byVerdict v (made k a xs d) (finishOf l) params B flags) (byVerdict v (made k b ys e) (finishOf l) params C flags)
+      finish-moved : (v : Verdict)
+          → Moved k l (stateOf (made k a xs d) B) (stateOf (made k b ys e) C) (byVerdict v (made k a xs d) (finishOf l) params B flags) (byVerdict v (made k b ys e) (finishOf l) params C flags)
       unfolding byVerdict accepted acceptedBy targetAfter targetRefused replyOf lunsAfter clearAfter highAfter workOf worked arrayAfter registersAfter countsAfter
       finish-moved Accepted = record {
         reply = refl;
@@ -142,17 +152,20 @@ module _ (params flags : List ℕ) where
         fixed = refixed k refl (or-none (k .seen) refl);
         fixedʳ = refixed k refl (or-none (k .seen) refl);
       }
-      finish-moved (Refused r) = record { reply = refl; luns = as-were; buffers = unedited (k .geometry) l B C; fixed = refl; fixedʳ = refl }
+      finish-moved (Refused r) =
+          record { reply = refl; luns = as-were; buffers = unedited (k .geometry) l B C; fixed = refl; fixedʳ = refl }
 
   -- a finish event leaves the decoder as it is
-  finish-keeps : (f : ℕ) (t : Target) (b : Buffers) (v : Verdict) → byVerdict v t (finishOf f) params b flags .target .decoder ≡ t .decoder
+  finish-keeps : (f : ℕ) (t : Target) (b : Buffers) (v : Verdict)
+      → byVerdict v t (finishOf f) params b flags .target .decoder ≡ t .decoder
   unfolding byVerdict accepted acceptedBy targetAfter targetRefused sequenceAfter outputAfter
   finish-keeps f t b Accepted = refl
   finish-keeps f t b (Refused r) = refl
 
   -- any two states with the fixed half k
   module _ (k : Fixed) (P : State → State → Type 0) where
-    by-fixed : ((a b : ℕ) (xs ys : List Lun) (d e : Decoder) (B C : Buffers) → P (stateOf (made k a xs d) B) (stateOf (made k b ys e) C)) → (s u : State) → fixedOf (s .target) ≡ k → fixedOf (u .target) ≡ k → P s u
+    by-fixed : ((a b : ℕ) (xs ys : List Lun) (d e : Decoder) (B C : Buffers) → P (stateOf (made k a xs d) B) (stateOf (made k b ys e) C))
+        → (s u : State) → fixedOf (s .target) ≡ k → fixedOf (u .target) ≡ k → P s u
     by-fixed h s u q r =
         let from : Fixed → State → State = λ f w. stateOf (made f (w .target .selected) (w .target .luns) (w .target .decoder)) (w .buffers) in
         subst (λ (f : Fixed). P s (from f u)) (sym r)
@@ -167,7 +180,8 @@ module _ (params flags : List ℕ) where
 
     one-sequence : (a b : ℕ) (xs ys : List Lun) (q : Sequence) (o p : Output) (B C : Buffers) (c : Cycle) (cs : List Cycle)
         → Standing (c ∷ cs) o p → Course (k .geometry) l (c ∷ cs) q o → Spared (k .geometry) l cs
-        → Agreed k l (stateOf (made k a xs (decoder q o)) B) (stateOf (made k b ys (decoder q p)) C) → CycleMet cs (stateOf (made k a xs (decoder q o)) B) (stateOf (made k b ys (decoder q p)) C) (eventOf c)
+        → Agreed k l (stateOf (made k a xs (decoder q o)) B) (stateOf (made k b ys (decoder q p)) C)
+        → CycleMet cs (stateOf (made k a xs (decoder q o)) B) (stateOf (made k b ys (decoder q p)) C) (eventOf c)
     unfolding Course
     one-sequence a b xs ys q o p B C c cs standing course spared agreed =
         let t = made k a xs (decoder q o) in
@@ -180,7 +194,8 @@ module _ (params flags : List ℕ) where
           alike = rw (is, isʳ, ← same) (cycle-decoder k on l a b xs ys q o p B C c cs standing course spared (verdict t (eventOf c)) refl);
         }
 
-    pub cycle-met : (c : Cycle) (cs : List Cycle) (s u : State) → Agreed k l s u → Alike (k .geometry) l (c ∷ cs) (s .target .decoder) (u .target .decoder) → CycleMet cs s u (eventOf c)
+    pub cycle-met : (c : Cycle) (cs : List Cycle) (s u : State) → Agreed k l s u
+        → Alike (k .geometry) l (c ∷ cs) (s .target .decoder) (u .target .decoder) → CycleMet cs s u (eventOf c)
     cycle-met c cs s u agreed alike =
         by-fixed k (λ s u. Agreed k l s u → Alike (k .geometry) l (c ∷ cs) (s .target .decoder) (u .target .decoder) → CycleMet cs s u (eventOf c))
         (λ a b xs ys d e B C near like.
@@ -191,7 +206,8 @@ module _ (params flags : List ℕ) where
         s u (agreed .fixed) (agreed .fixedʳ) agreed alike
 
     -- a finish event of the l-th LUN, met by both
-    pub finish-met : (s u : State) → Agreed k l s u → Moved k l s u (stepAt params flags s (finishOf l)) (stepAt params flags u (finishOf l))
+    pub finish-met : (s u : State) → Agreed k l s u
+        → Moved k l s u (stepAt params flags s (finishOf l)) (stepAt params flags u (finishOf l))
     finish-met s u agreed =
         by-fixed k (λ s u. Agreed k l s u → Moved k l s u (stepAt params flags s (finishOf l)) (stepAt params flags u (finishOf l)))
         (λ a b xs ys d e B C near.
@@ -200,5 +216,7 @@ module _ (params flags : List ℕ) where
         (finish-moved k on l a b xs ys d e B C (near .lun) (verdict (made k a xs d) (finishOf l))))
         s u (agreed .fixed) (agreed .fixedʳ) agreed
 
-  pub finish-decoder : (f : ℕ) (s : State) → Fine params flags s → stepAt params flags s (finishOf f) .target .decoder ≡ s .target .decoder
-  finish-decoder f s fine = rw (by-verdict s (finishOf f) fine) (finish-keeps f (s .target) (s .buffers) (verdict (s .target) (finishOf f)))
+  pub finish-decoder : (f : ℕ) (s : State) → Fine params flags s
+      → stepAt params flags s (finishOf f) .target .decoder ≡ s .target .decoder
+  finish-decoder f s fine =
+      rw (by-verdict s (finishOf f) fine) (finish-keeps f (s .target) (s .buffers) (verdict (s .target) (finishOf f)))

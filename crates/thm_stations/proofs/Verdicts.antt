@@ -36,7 +36,8 @@ module _ (luns : List Lun) (selected : ℕ) where
 
   aimed-calm : (x : FirstFound) → aimedFound x ≡ true → othersWorkFor luns selected x ≡ false
   aimed-calm first.Nothing h = refl
-  aimed-calm (first.Found f) h = nobody-works (waitsFor f) (both (isNobody (waitsFor f)) (not (eqb (cyclesOf f) 0)) h .0)
+  aimed-calm (first.Found f) h =
+      nobody-works (waitsFor f) (both (isNobody (waitsFor f)) (not (eqb (cyclesOf f) 0)) h .0)
 
   calm : (v : ℕ) → plain v ≡ true → othersBusy luns selected (eventOf (command v)) ≡ false
   unfolding othersBusy
@@ -47,7 +48,8 @@ module _ (k : Fixed) (l a b : ℕ) (xs ys : List Lun) (lun : lunAt xs l ≡ lunA
   works-alike m q = rw q (ap (λ (u : Lun). u .working) lun)
 
   -- what an address completes asks for no LUN but the l-th
-  names-alike : (x : Given) → GivenOf (k .geometry) l x → namesWorking (k .geometry) xs a x ≡ namesWorking (k .geometry) ys b x
+  names-alike : (x : Given) → GivenOf (k .geometry) l x
+      → namesWorking (k .geometry) xs a x ≡ namesWorking (k .geometry) ys b x
   unfolding GivenOf
   names-alike given.Nothing w = refl
   names-alike (given.Column c) w = rw w
@@ -64,11 +66,14 @@ module _ (k : Fixed) (l a b : ℕ) (xs ys : List Lun) (lun : lunAt xs l ≡ lunA
   output-alike (output.Signature at) q = refl
   output-alike (output.Feature at) q = refl
 
-  command-alike : (s : Sequence) (v : ℕ) (o p : Output) → plain v ≡ true → verdict (made k a xs (decoder s o)) (eventOf (command v)) ≡ verdict (made k b ys (decoder s p)) (eventOf (command v))
+  command-alike : (s : Sequence) (v : ℕ) (o p : Output) → plain v ≡ true
+      → verdict (made k a xs (decoder s o)) (eventOf (command v)) ≡ verdict (made k b ys (decoder s p)) (eventOf (command v))
   unfolding verdict rules badRecord misplaced fits outOfRange notOffered lunWorks pastEnd notWorking lineHeld
   command-alike s v o p h = rw (calm xs a v h, calm ys b v h)
 
-  pub verdict-alike : (s : Sequence) (c : Cycle) {cs : List Cycle} {o p : Output} → Standing (c ∷ cs) o p → CycleOf (k .geometry) l c s o → verdict (made k a xs (decoder s o)) (eventOf c) ≡ verdict (made k b ys (decoder s p)) (eventOf c)
+  pub verdict-alike : (s : Sequence) (c : Cycle) {cs : List Cycle} {o p : Output} → Standing (c ∷ cs) o p
+      → CycleOf (k .geometry) l c s o
+      → verdict (made k a xs (decoder s o)) (eventOf c) ≡ verdict (made k b ys (decoder s p)) (eventOf c)
   unfolding CycleOf verdict rules badRecord beforeReset unknown misplaced fits othersBusy outOfRange notOffered lunWorks lineLow pastEnd notWorking lineHeld
   verdict-alike s (command v) {o = o} {p = p} standing keeps = command-alike s v o p (keeps .0)
   verdict-alike s (address v) standing keeps = rw (names-alike (completed s v) keeps)

@@ -1,5 +1,6 @@
--- Demand 3 over `stepOf`. Run a mixture of whole jobs; then, from the same start, LUN 0's events alone, then LUN 1's and so on: every
--- event gets the same answer, and all memory ends equal. And a LUN sees no difference where all other LUNs' events are deleted.
+-- Demand 3 over `stepOf`. Run a mixture of whole jobs; then, from the same start, LUN 0's events alone, then LUN 1's and so
+-- on: every event gets the same answer, and all memory ends equal. And a LUN sees no difference where all other LUNs' events
+-- are deleted.
 use Prim.Native.Nat.{ℕ, _*_}
 use mathlib.Core.Path.{_≡_}
 use mathlib.Core.Bool.{true}
@@ -56,14 +57,20 @@ module _ (params flags : List ℕ) where
   -- a run: each event with its answer, in order; and the state after all
   unfoldable pub log : State → List (Owned Event) → List (Owned Told)
   log s [] = []
-  log s (x ∷ xs) = record { own = x .own; it = record { event = x .it; reply = stepAt params flags s (x .it) .reply } } ∷ log (next s (x .it)) xs
+  log s (x ∷ xs) =
+      record { own = x .own; it = record { event = x .it; reply = stepAt params flags s (x .it) .reply } }
+      ∷ log (next s (x .it)) xs
 
   unfoldable pub end : State → List (Owned Event) → State
   end s es = after params flags (map (λ (x : Owned Event). x .it) es) s
 
-  -- a record and buffers that rule 13 lets pass, as in every run from an accepted power-on; the record holds four LUN records
+  -- a record and buffers that rule 13 lets pass, as in every run from an accepted power-on; the record holds four LUN
+  -- records
   pub record Fine (s : State) : Type 0 where
-    pub passes : usable (s .target) (length params) (length (s .buffers .array)) (length (s .buffers .registers)) (length (s .buffers .counts)) (length flags) ≡ true
+    pub passes :
+        usable (s .target) (length params) (length (s .buffers .array)) (length (s .buffers .registers))
+        (length (s .buffers .counts)) (length flags)
+        ≡ true
     pub four : length (s .target .luns) ≡ 4
 
   -- the start: after the first reset, no sequence open, program-clear on; any output may still be open
@@ -73,8 +80,8 @@ module _ (params flags : List ℕ) where
     pub closed : s .target .decoder .sequence ≡ Idle
     pub clear : s .target .clear ≡ true
 
-  -- the run of one LUN after the other beside the run of the mixture: the log is the other log in the serial order, so that every
-  -- event gets the same answer; arrays, counts, page registers and LUN records end equal
+  -- the run of one LUN after the other beside the run of the mixture: the log is the other log in the serial order, so that
+  -- every event gets the same answer; arrays, counts, page registers and LUN records end equal
   pub record Isolated (s : State) (es : List (Owned Event)) : Type 0 where
     pub answers : log s (inTurn s es) ≡ serial (s .target .geometry .luns) (log s es)
     pub in-order : Reordered (log s (inTurn s es)) (log s es)
@@ -88,13 +95,18 @@ module _ (params flags : List ℕ) where
     pub answers : log s (those l es) ≡ those l (log s es)
     pub lun : lunRecord l (end s (those l es)) ≡ lunRecord l (end s es)
     pub array : lunArray (s .target .geometry) l (end s (those l es)) ≡ lunArray (s .target .geometry) l (end s es)
-    pub register : lunRegister (s .target .geometry) l (end s (those l es)) ≡ lunRegister (s .target .geometry) l (end s es)
+    pub register :
+        lunRegister (s .target .geometry) l (end s (those l es)) ≡ lunRegister (s .target .geometry) l (end s es)
     pub counts : lunCounts (s .target .geometry) l (end s (those l es)) ≡ lunCounts (s .target .geometry) l (end s es)
 
 -- demand 3
 abbrev pub Isolation : Type 0
-Isolation = (params flags : List ℕ) (s : State) (es : List (Owned Event)) → Start params flags s → Mixture (s .target .geometry) es → Isolated params flags s es
+Isolation =
+    (params flags : List ℕ) (s : State) (es : List (Owned Event)) → Start params flags s
+    → Mixture (s .target .geometry) es → Isolated params flags s es
 
 -- and for each LUN by itself
 abbrev pub Deletion : Type 0
-Deletion = (params flags : List ℕ) (s : State) (es : List (Owned Event)) → Start params flags s → Mixture (s .target .geometry) es → (l : ℕ) → Undisturbed params flags s es l
+Deletion =
+    (params flags : List ℕ) (s : State) (es : List (Owned Event)) → Start params flags s
+    → Mixture (s .target .geometry) es → (l : ℕ) → Undisturbed params flags s es l

@@ -24,8 +24,8 @@ params = replicate 256 0
 abbrev pub flags : List ℕ
 flags = replicate 16 0
 
--- ready, with an erased array: after the first FFh or before it, with program-clear on or off; the part has more than one LUN,
--- program-clear, EEh and EFh, 78h and 06h
+-- ready, with an erased array: after the first FFh or before it, with program-clear on or off; the part has more than one
+-- LUN, program-clear, EEh and EFh, 78h and 06h
 abbrev pub readyState : Bool → Bool → State
 readyState seen clear = record {
   target = record {
@@ -57,7 +57,8 @@ done l = record { own = l; it = finishOf l }
 abbrev pub setUp : Bool → List (Owned Event)
 setUp false = of 0 (command 0xff) ∷ []
 setUp true =
-    of 0 (command 0xff) ∷ of 0 (command 0xef) ∷ of 0 (address 0x01) ∷ of 0 (dataIn 0x40) ∷ of 0 (dataIn 0) ∷ of 0 (dataIn 0) ∷ of 0 (dataIn 0) ∷ []
+    of 0 (command 0xff) ∷ of 0 (command 0xef) ∷ of 0 (address 0x01)
+    ∷ of 0 (dataIn 0x40) ∷ of 0 (dataIn 0) ∷ of 0 (dataIn 0) ∷ of 0 (dataIn 0) ∷ []
 
 -- A saves 3Ch and A5h at row 0; B saves C3h at row 32, its LUN's first page, after an 85h move, while A's LUN comes to its end; A
 -- reads its register out, while B's LUN comes to its end; B asks for its status
@@ -65,7 +66,8 @@ abbrev pub events : List (Owned Event)
 events =
     of 0 (command 0x80) ∷ of 0 (address 0) ∷ of 0 (address 0) ∷ of 0 (address 0) ∷ of 0 (address 0) ∷ of 0 (address 0)
     ∷ of 0 (dataIn 0x3c) ∷ of 0 (dataIn 0xa5) ∷ of 0 (command 0x10)
-    ∷ of 1 (command 0x80) ∷ of 1 (address 0) ∷ of 1 (address 0) ∷ done 0 ∷ of 1 (address 32) ∷ of 1 (address 0) ∷ of 1 (address 0)
+    ∷ of 1 (command 0x80) ∷ of 1 (address 0) ∷ of 1 (address 0) ∷ done 0
+    ∷ of 1 (address 32) ∷ of 1 (address 0) ∷ of 1 (address 0)
     ∷ of 1 (command 0x85) ∷ of 1 (address 7) ∷ of 1 (address 0) ∷ of 1 (dataIn 0xc3) ∷ of 1 (command 0x10)
     ∷ of 0 (command 0x06) ∷ of 0 (address 0) ∷ of 0 (address 0) ∷ of 0 (address 0) ∷ of 0 (address 0) ∷ of 0 (address 0)
     ∷ of 0 (command 0xe0) ∷ of 0 dataOut ∷ done 1 ∷ of 0 dataOut
