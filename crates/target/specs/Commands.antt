@@ -34,19 +34,34 @@ use Rattle.target.specs.declared.commands.SecondFound.the-variants as se
 -- the short list: byte, address cycles, second command (0 where there is none), which fields of its row are looked at, what follows
 -- its addresses, whether 5 is asked of its LUN, which LUNs 6 waits for, whether it clears registers, the addresses that a lone
 -- address cycle may have, and the optional bit that offers it (16: every part has it)
+abbrev pub firstRow : ℕ → ℕ → ℕ → Looks → Then → Bool → Waits → Bool → ℕ → ℕ → ℕ → FirstRow
+firstRow b n s l t r w c x y o = record {
+  byte = b;
+  cycles = n;
+  second = s;
+  looks = l;
+  then = t;
+  ready = r;
+  waits = w;
+  clears = c;
+  one = x;
+  other = y;
+  option = o;
+}
+
 abbrev pub firsts : List FirstRow
 firsts =
-    record { byte = 0x00; cycles = 5; second = 0x30; looks = looks.Page; then = then.Second; ready = true; waits = waits.Nobody; clears = false; one = 0x00; other = 0x00; option = 16 }
-    ∷ record { byte = 0x05; cycles = 2; second = 0xe0; looks = looks.Nothing; then = then.Second; ready = true; waits = waits.Nobody; clears = false; one = 0x00; other = 0x00; option = 16 }
-    ∷ record { byte = 0x06; cycles = 5; second = 0xe0; looks = looks.Lun; then = then.Second; ready = true; waits = waits.Nobody; clears = false; one = 0x00; other = 0x00; option = 6 }
-    ∷ record { byte = 0x60; cycles = 3; second = 0xd0; looks = looks.Block; then = then.Second; ready = true; waits = waits.Nobody; clears = false; one = 0x00; other = 0x00; option = 16 }
-    ∷ record { byte = 0x70; cycles = 0; second = 0x00; looks = looks.Nothing; then = then.Status; ready = false; waits = waits.Others; clears = false; one = 0x00; other = 0x00; option = 16 }
-    ∷ record { byte = 0x78; cycles = 3; second = 0x00; looks = looks.Lun; then = then.Status; ready = false; waits = waits.Nobody; clears = false; one = 0x00; other = 0x00; option = 3 }
-    ∷ record { byte = 0x80; cycles = 5; second = 0x10; looks = looks.Page; then = then.Data; ready = true; waits = waits.Nobody; clears = true; one = 0x00; other = 0x00; option = 16 }
-    ∷ record { byte = 0x90; cycles = 1; second = 0x00; looks = looks.Nothing; then = then.Id; ready = false; waits = waits.All; clears = false; one = 0x00; other = 0x20; option = 16 }
-    ∷ record { byte = 0xec; cycles = 1; second = 0x00; looks = looks.Nothing; then = then.ParameterPage; ready = false; waits = waits.All; clears = false; one = 0x00; other = 0x00; option = 16 }
-    ∷ record { byte = 0xee; cycles = 1; second = 0x00; looks = looks.Nothing; then = then.FeatureOut; ready = false; waits = waits.All; clears = false; one = 0x01; other = 0x01; option = 2 }
-    ∷ record { byte = 0xef; cycles = 1; second = 0x00; looks = looks.Nothing; then = then.FeatureIn; ready = false; waits = waits.All; clears = false; one = 0x01; other = 0x01; option = 2 }
+    firstRow 0x00 5 0x30 looks.Page then.Second true waits.Nobody false 0x00 0x00 16
+    ∷ firstRow 0x05 2 0xe0 looks.Nothing then.Second true waits.Nobody false 0x00 0x00 16
+    ∷ firstRow 0x06 5 0xe0 looks.Lun then.Second true waits.Nobody false 0x00 0x00 6
+    ∷ firstRow 0x60 3 0xd0 looks.Block then.Second true waits.Nobody false 0x00 0x00 16
+    ∷ firstRow 0x70 0 0x00 looks.Nothing then.Status false waits.Others false 0x00 0x00 16
+    ∷ firstRow 0x78 3 0x00 looks.Lun then.Status false waits.Nobody false 0x00 0x00 3
+    ∷ firstRow 0x80 5 0x10 looks.Page then.Data true waits.Nobody true 0x00 0x00 16
+    ∷ firstRow 0x90 1 0x00 looks.Nothing then.Id false waits.All false 0x00 0x20 16
+    ∷ firstRow 0xec 1 0x00 looks.Nothing then.ParameterPage false waits.All false 0x00 0x00 16
+    ∷ firstRow 0xee 1 0x00 looks.Nothing then.FeatureOut false waits.All false 0x01 0x01 2
+    ∷ firstRow 0xef 1 0x00 looks.Nothing then.FeatureIn false waits.All false 0x01 0x01 2
     ∷ []
 
 -- the place of a first command in that list
@@ -70,7 +85,7 @@ firstCommands = Read ∷ ChangeColumn ∷ ChangeColumnEnhanced ∷ Erase ∷ Sta
 unfoldable pub rowOf : First → FirstRow
 rowOf f =
     getD firsts (placeOf f)
-    (record { byte = 0; cycles = 0; second = 0; looks = looks.Nothing; then = then.Second; ready = false; waits = waits.Nobody; clears = false; one = 0; other = 0; option = 0 })
+    (firstRow 0 0 0 looks.Nothing then.Second false waits.Nobody false 0 0 0)
 
 abbrev pub byteOf : First → ℕ
 byteOf f = rowOf f .byte
@@ -141,13 +156,16 @@ offered w v = offeredFound w (firstOf v)
 -- The second commands.
 
 -- byte; whether the LUN works from it on; whether 7 guards it; whether it puts the register out; what it does with the page or block
+abbrev pub secondLine : ℕ → Bool → Bool → Bool → Act → SecondRow
+secondLine b s g o a = record { byte = b; starts = s; guarded = g; shows = o; act = a }
+
 abbrev pub seconds : List SecondRow
 seconds =
-    record { byte = 0x30; starts = true; guarded = false; shows = true; act = act.Load }
-    ∷ record { byte = 0xe0; starts = false; guarded = false; shows = true; act = act.Nothing }
-    ∷ record { byte = 0x10; starts = true; guarded = true; shows = false; act = act.Program }
-    ∷ record { byte = 0xd0; starts = true; guarded = true; shows = false; act = act.Erase }
-    ∷ record { byte = 0x85; starts = false; guarded = false; shows = false; act = act.Move }
+    secondLine 0x30 true false true act.Load
+    ∷ secondLine 0xe0 false false true act.Nothing
+    ∷ secondLine 0x10 true true false act.Program
+    ∷ secondLine 0xd0 true true false act.Erase
+    ∷ secondLine 0x85 false false false act.Move
     ∷ []
 
 abbrev pub secondPlace : Second → ℕ
@@ -162,7 +180,7 @@ secondCommands = StartRead ∷ StartOutput ∷ StartProgram ∷ StartErase ∷ M
 
 unfoldable pub secondRow : Second → SecondRow
 secondRow s =
-    getD seconds (secondPlace s) (record { byte = 0; starts = false; guarded = false; shows = false; act = act.Nothing })
+    getD seconds (secondPlace s) (secondLine 0 false false false act.Nothing)
 
 abbrev pub secondByte : Second → ℕ
 secondByte s = secondRow s .byte

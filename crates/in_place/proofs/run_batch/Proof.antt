@@ -67,13 +67,13 @@ use Rattle.in_place.proofs.Relend.{renamed, lend, back}
 use Rattle.in_place.proofs.Fold.{held, running, count-le, count-room, turned, ended, batched}
 use Rattle.in_place.proofs.batch_plan as plan
 use Rattle.in_place.proofs.batch_plan.Symbol as plan-def
-use Rattle.in_place.proofs.batch_plan.Symbol.{name as #lent·batch-plan}
+use Rattle.in_place.proofs.batch_plan.Symbol.{name as #in-place·batch-plan}
 use Rattle.in_place.proofs.batch_plan.Met as plan-thm
 use Rattle.in_place.proofs.run_one as one
 use Rattle.in_place.proofs.run_one.Symbol as one-def
-use Rattle.in_place.proofs.run_one.Symbol.{name as #lent·run-one}
+use Rattle.in_place.proofs.run_one.Symbol.{name as #in-place·run-one}
 use Rattle.in_place.proofs.run_one.Met as one-thm
-use Rattle.in_place.proofs.run_batch.Key.{name as #lent·run-batch}
+use Rattle.in_place.proofs.run_batch.Key.{name as #in-place·run-batch}
 use Rattle.in_place.proofs.run_batch as batch
 use Rattle.in_place.proofs.run_batch.Statement as stated
 use Rattle.in_place.proofs.run_batch.Code as code
@@ -258,7 +258,7 @@ module _ {M : Type 1} (𝓤 : URA M) (H : Heap 𝓤) (A : Atoms 𝓤) (W : Given
   Nearer-wf : WellFounded Nearer
   Nearer-wf = InvImage·wf (λ (x : X). n - x .s .done) (Nat·lt-wfRel .wf)
 
-  module _ (𝓣 : Tables 𝓤 H) (known : Triple 𝓤 (𝓣 .C #lent·run-one) (One 𝓤 H A at-mem run)) (is-p : IsP) (l₀ l₁ l₂ l₃ l₄ l₅ l₆ l₇ l₈ l₉ l₁₀ l₁₁ l₁₂ l₁₃ l₁₄ l₁₅ l₁₆ l₁₇ l₁₈ l₁₉ l₂₀ l₂₁ l₂₂ l₂₃ l₂₄ : ℕ) where
+  module _ (𝓣 : Tables 𝓤 H) (known : Triple 𝓤 (𝓣 .C #in-place·run-one) (One 𝓤 H A at-mem run)) (is-p : IsP) (l₀ l₁ l₂ l₃ l₄ l₅ l₆ l₇ l₈ l₉ l₁₀ l₁₁ l₁₂ l₁₃ l₁₄ l₁₅ l₁₆ l₁₇ l₁₈ l₁₉ l₂₀ l₂₁ l₂₂ l₂₃ l₂₄ : ℕ) where
     abbrev C : Calls 𝓤 H
     C = 𝓣 .C
 
@@ -396,7 +396,7 @@ module _ {M : Type 1} (𝓤 : URA M) (H : Heap 𝓤) (A : Atoms 𝓤) (W : Given
     looped x = first ! $ blocks ! $ loops ! 𝓣 Nearer Nearer-wf At (λ y. turns-by y _ refl) x
 
   -- the MIR up to the loop: the plan is asked for, and what the slices own is taken apart
-  module _ (𝓣 : Tables 𝓤 H) (known-plan : Triple 𝓤 (𝓣 .C #lent·batch-plan) (Planned 𝓤 H A at-mem run)) (known-one : Triple 𝓤 (𝓣 .C #lent·run-one) (One 𝓤 H A at-mem run)) where
+  module _ (𝓣 : Tables 𝓤 H) (known-plan : Triple 𝓤 (𝓣 .C #in-place·batch-plan) (Planned 𝓤 H A at-mem run)) (known-one : Triple 𝓤 (𝓣 .C #in-place·run-one) (One 𝓤 H A at-mem run)) where
     walk : Is T.the-row t₀ (vT t₀ ∷ []) → ent 𝓤 (onEntry 𝓤 H A batch.signature (κ-events, (κ-params, (κ-array, (κ-registers, (κ-counts, (κ-flags, (κ-replies, tt))))))) (q-events, (q-params, (q-array, (q-registers, (q-counts, (q-flags, (q-replies, tt))))))) args at) (WpFn 𝓤 H (𝓣 .C) (𝓣 .Λ) code.function (vT t₀ ∷ vL events ∷ vL params ∷ vL array ∷ vL registers ∷ vL counts ∷ vL flags ∷ vL replies ∷ []) Post)
     walk is-t =
         qed W ((‵ (flft κ-events q-events) ⊛ ‵ (flft κ-params q-params) ⊛ ‵ (flft κ-array q-array) ⊛ ‵ (flft κ-registers q-registers) ⊛ ‵ (flft κ-counts q-counts) ⊛ ‵ (flft κ-flags q-flags) ⊛ ‵ (flft κ-replies q-replies) ⊛ ‵ ftrue) ∷ ‵ (owns (T.the-row ∷ ShrSlice (named 0) κ-events E.the-row ∷ ShrSlice (named 1) κ-params u8 ∷ MutSlice (named 2) κ-array u8 ∷ MutSlice (named 3) κ-registers u8 ∷ MutSlice (named 4) κ-counts u8 ∷ ShrSlice (named 5) κ-flags u8 ∷ MutSlice (named 6) κ-replies u8 ∷ []) args at) ∷ []) ∵
@@ -417,7 +417,7 @@ module _ {M : Type 1} (𝓤 : URA M) (H : Heap 𝓤) (A : Atoms 𝓤) (W : Given
         (record { s = running t₀ 0 (array .now) (registers .now) (counts .now) (replies .now); is-t = is-t; upto = zero-le; l-array = refl; l-registers = refl; l-counts = refl; l-replies = refl; left = refl }))))))))))))))))))))))))))))))
 
 module _ {M : Type 1} (𝓤 : URA M) (H : Heap 𝓤) (A : Atoms 𝓤) (W : Given 𝓤 H A) (at-mem : Memory → SProp 𝓤) (run : Routine → Fun 𝓤) where
-  batch-walks : (𝓣 : Tables 𝓤 H) → Triple 𝓤 (𝓣 .C #lent·batch-plan) (Planned 𝓤 H A at-mem run) → Triple 𝓤 (𝓣 .C #lent·run-one) (One 𝓤 H A at-mem run) → Walks 𝓤 H A batch.ended stayed (WpFn 𝓤 H (𝓣 .C) (𝓣 .Λ) code.function) (batch.clauses 𝓤 H A at-mem run)
+  batch-walks : (𝓣 : Tables 𝓤 H) → Triple 𝓤 (𝓣 .C #in-place·batch-plan) (Planned 𝓤 H A at-mem run) → Triple 𝓤 (𝓣 .C #in-place·run-one) (One 𝓤 H A at-mem run) → Walks 𝓤 H A batch.ended stayed (WpFn 𝓤 H (𝓣 .C) (𝓣 .Λ) code.function) (batch.clauses 𝓤 H A at-mem run)
   batch-walks 𝓣 known-plan known-one = walked 𝓤 H A batch.ended stayed (batch.clauses 𝓤 H A at-mem run) (WpFn 𝓤 H (𝓣 .C) (𝓣 .Λ) code.function)
       (λ κs. (LL.vals T.the-type T′.the-laws, (slice-vals, (slice-vals, (slice-vals, (slice-vals, (slice-vals, (slice-vals, (slice-vals, tt)))))))))
       (λ κs. (LL.tells T.the-type T′.the-laws, (shr-slice-tells (named 0) (κs .0) E.the-row, (shr-slice-tells (named 1) (κs .1 .0) u8, (mut-slice-tells (named 2) (κs .1 .1 .0) u8, (mut-slice-tells (named 3) (κs .1 .1 .1 .0) u8, (mut-slice-tells (named 4) (κs .1 .1 .1 .1 .0) u8, (shr-slice-tells (named 5) (κs .1 .1 .1 .1 .1 .0) u8, (mut-slice-tells (named 6) (κs .1 .1 .1 .1 .1 .1 .0) u8, tt)))))))))
@@ -449,7 +449,7 @@ module _ {M : Type 1} (𝓤 : URA M) (H : Heap 𝓤) (A : Atoms 𝓤) (W : Given
     ),
   )
 
-batch-meets : {M : Type 1} (𝓤 : URA M) (H : Heap 𝓤) (A : Atoms 𝓤) → Given 𝓤 H A → (at-mem : Memory → SProp 𝓤) (run : Routine → Fun 𝓤) (𝓣 : Tables 𝓤 H) → Triple 𝓤 (𝓣 .C #lent·batch-plan) (Planned 𝓤 H A at-mem run) → Triple 𝓤 (𝓣 .C #lent·run-one) (One 𝓤 H A at-mem run)
+batch-meets : {M : Type 1} (𝓤 : URA M) (H : Heap 𝓤) (A : Atoms 𝓤) → Given 𝓤 H A → (at-mem : Memory → SProp 𝓤) (run : Routine → Fun 𝓤) (𝓣 : Tables 𝓤 H) → Triple 𝓤 (𝓣 .C #in-place·batch-plan) (Planned 𝓤 H A at-mem run) → Triple 𝓤 (𝓣 .C #in-place·run-one) (One 𝓤 H A at-mem run)
     → Meets 𝓤 H A batch.signature (WpFn 𝓤 H (𝓣 .C) (𝓣 .Λ) code.function) (batch.spec 𝓤 H A at-mem run)
 batch-meets 𝓤 H A W at-mem run 𝓣 known-plan known-one =
     walk-meets 𝓤 H A batch.ended stayed W (goes-on 𝓤 H A W at-mem run) (batch.clauses 𝓤 H A at-mem run)
@@ -459,7 +459,7 @@ pub run-batch-spec : {M : Type 1} → stated.statement M
 unfolding code.routine tablesOf
 run-batch-spec 𝓤 H 𝓜 𝓖 𝓡 =
     entered 𝓤 H (tripleOf 𝓤 H (𝓖 .A) batch.signature (batch.spec 𝓤 H (𝓖 .A) (𝓜 .mem) (𝓡 .run)))
-    (tables 𝓤 H 𝓜 𝓡 code.env .C) (tables 𝓤 H 𝓜 𝓡 code.env .Λ) #lent·run-batch code.function (code.unfolded 𝓤 H 𝓜 𝓡)
+    (tables 𝓤 H 𝓜 𝓡 code.env .C) (tables 𝓤 H 𝓜 𝓡 code.env .Λ) #in-place·run-batch code.function (code.unfolded 𝓤 H 𝓜 𝓡)
     (batch-meets 𝓤 H (𝓖 .A) (givenOf 𝓤 H 𝓜 𝓖) (𝓜 .mem) (𝓡 .run) (tablesOf 𝓤 H 𝓜 (tables 𝓤 H 𝓜 𝓡 code.env))
-    (cited 𝓤 H (Planned 𝓤 H (𝓖 .A) (𝓜 .mem) (𝓡 .run)) 𝓜 𝓡 code.env #lent·batch-plan plan-def.routine code.calls-lent·batch-plan (plan-thm.met 𝓤 H 𝓜 𝓖 𝓡))
-    (cited 𝓤 H (One 𝓤 H (𝓖 .A) (𝓜 .mem) (𝓡 .run)) 𝓜 𝓡 code.env #lent·run-one one-def.routine code.calls-lent·run-one (one-thm.met 𝓤 H 𝓜 𝓖 𝓡)))
+    (cited 𝓤 H (Planned 𝓤 H (𝓖 .A) (𝓜 .mem) (𝓡 .run)) 𝓜 𝓡 code.env #in-place·batch-plan plan-def.routine code.calls-in-place·batch-plan (plan-thm.met 𝓤 H 𝓜 𝓖 𝓡))
+    (cited 𝓤 H (One 𝓤 H (𝓖 .A) (𝓜 .mem) (𝓡 .run)) 𝓜 𝓡 code.env #in-place·run-one one-def.routine code.calls-in-place·run-one (one-thm.met 𝓤 H 𝓜 𝓖 𝓡)))

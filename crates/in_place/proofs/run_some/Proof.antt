@@ -59,13 +59,13 @@ use Rattle.target.proofs.Event as E
 use Rattle.target.proofs.Event.Laws as E′
 use Rattle.in_place.proofs.lesser as lesser
 use Rattle.in_place.proofs.lesser.Symbol as lesser-def
-use Rattle.in_place.proofs.lesser.Symbol.{name as #lent·lesser}
+use Rattle.in_place.proofs.lesser.Symbol.{name as #in-place·lesser}
 use Rattle.in_place.proofs.lesser.Met as lesser-thm
 use Rattle.in_place.proofs.run_batch as batch
 use Rattle.in_place.proofs.run_batch.Symbol as batch-def
-use Rattle.in_place.proofs.run_batch.Symbol.{name as #lent·run-batch}
+use Rattle.in_place.proofs.run_batch.Symbol.{name as #in-place·run-batch}
 use Rattle.in_place.proofs.run_batch.Met as batch-thm
-use Rattle.in_place.proofs.run_some.Key.{name as #lent·run-some}
+use Rattle.in_place.proofs.run_some.Key.{name as #in-place·run-some}
 use Rattle.in_place.proofs.run_some as some
 use Rattle.in_place.proofs.run_some.Statement as stated
 use Rattle.in_place.proofs.run_some.Code as code
@@ -182,7 +182,7 @@ module _ {M : Type 1} (𝓤 : URA M) (H : Heap 𝓤) (A : Atoms 𝓤) (W : Given
     goes = qed W (‵ (flft (ν ∷ []) fullShare) ∷ (‵ (flft κ-params q-params) ⊛ ‵ (flft κ-array q-array) ⊛ ‵ (flft κ-registers q-registers) ⊛ ‵ (flft κ-counts q-counts) ⊛ ‵ (flft κ-flags q-flags) ⊛ ‵ (flft κ-replies q-replies) ⊛ ‵ ftrue) ∷ ‵ (T.the-row .own t (vT t ∷ [])) ∷ ‵ (ShrSlice (named 0) (ν ∷ []) E.the-row .own lent (sliceVal (l, 0) k ∷ [])) ∷ ‵ (owns (ShrSlice (named 1) κ-params u8 ∷ MutSlice (named 2) κ-array u8 ∷ MutSlice (named 3) κ-registers u8 ∷ MutSlice (named 4) κ-counts u8 ∷ ShrSlice (named 5) κ-flags u8 ∷ MutSlice (named 6) κ-replies u8 ∷ []) (args .1 .1 .1) (at .1 .1 .1)) ∷ []) ∵
         join ! $ move ! (2 ∷ 3 ∷ []) $ fjoin ! $ move ! (2 ∷ 0 ∷ []) $ fjoin ! $ move ! (1 ∷ 0 ∷ []) $ join ! $ frame ! $ done !
 
-  module _ (C : Calls 𝓤 H) (Λ : Loops 𝓤 H) (fm : FmC 𝓤 H (W .laws) C) (known-lesser : Triple 𝓤 (C #lent·lesser) (Lesser 𝓤 H A at-mem run)) (known : Triple 𝓤 (C #lent·run-batch) (Batch 𝓤 H A at-mem run)) where
+  module _ (C : Calls 𝓤 H) (Λ : Loops 𝓤 H) (fm : FmC 𝓤 H (W .laws) C) (known-lesser : Triple 𝓤 (C #in-place·lesser) (Lesser 𝓤 H A at-mem run)) (known : Triple 𝓤 (C #in-place·run-batch) (Batch 𝓤 H A at-mem run)) where
     walk : Is T.the-row t (vT t ∷ []) → Is F es (vF es ∷ []) → n < 2 ^ 64 → Room u8 (length (params .now)) → Room u8 (length (array .now)) → Room u8 (length (registers .now)) → Room u8 (length (counts .now)) → Room u8 (length (flags .now)) → Room u8 (length (replies .now))
         → ent 𝓤 (onEntry 𝓤 H A some.signature (κ-params, (κ-array, (κ-registers, (κ-counts, (κ-flags, (κ-replies, tt)))))) (q-params, (q-array, (q-registers, (q-counts, (q-flags, (q-replies, tt)))))) args at) (WpFn 𝓤 H C Λ code.function (vT t ∷ vF es ∷ vint w64 n ∷ vL params ∷ vL array ∷ vL registers ∷ vL counts ∷ vL flags ∷ vL replies ∷ []) Post)
     walk is-t is-f fits room-params room-array room-registers room-counts room-flags room-replies =
@@ -226,7 +226,7 @@ module _ {M : Type 1} (𝓤 : URA M) (H : Heap 𝓤) (A : Atoms 𝓤) (W : Given
         keep ! (1 ∷ 6 ∷ 5 ∷ 4 ∷ 3 ∷ 2 ∷ []) $ by ! (exits l-es r v (zs .1 .1 .1 .0) (zs .1 .1 .1 .1 .0) (zs .1 .1 .1 .1 .1 .0) (zs .1 .1 .1 .1 .1 .1 .1 .0) says-so l-array l-registers l-counts l-replies))))))))))))))))))))))))))))))))))))))
 
 module _ {M : Type 1} (𝓤 : URA M) (H : Heap 𝓤) (A : Atoms 𝓤) (W : Given 𝓤 H A) (at-mem : Memory → SProp 𝓤) (run : Routine → Fun 𝓤) where
-  some-walks : (C : Calls 𝓤 H) (Λ : Loops 𝓤 H) → FmC 𝓤 H (W .laws) C → Triple 𝓤 (C #lent·lesser) (Lesser 𝓤 H A at-mem run) → Triple 𝓤 (C #lent·run-batch) (Batch 𝓤 H A at-mem run) → Walks 𝓤 H A some.ended stayed (WpFn 𝓤 H C Λ code.function) (some.clauses 𝓤 H A at-mem run)
+  some-walks : (C : Calls 𝓤 H) (Λ : Loops 𝓤 H) → FmC 𝓤 H (W .laws) C → Triple 𝓤 (C #in-place·lesser) (Lesser 𝓤 H A at-mem run) → Triple 𝓤 (C #in-place·run-batch) (Batch 𝓤 H A at-mem run) → Walks 𝓤 H A some.ended stayed (WpFn 𝓤 H C Λ code.function) (some.clauses 𝓤 H A at-mem run)
   some-walks C Λ fm known-lesser known = walked 𝓤 H A some.ended stayed (some.clauses 𝓤 H A at-mem run) (WpFn 𝓤 H C Λ code.function)
       (λ κs. (LL.vals T.the-type T′.the-laws, (array-vals (LL.vals E.the-type E′.the-laws), (uint-vals w64, (slice-vals, (slice-vals, (slice-vals, (slice-vals, (slice-vals, (slice-vals, tt))))))))))
       (λ κs. (LL.tells T.the-type T′.the-laws, (array-tells E.the-row (LL.vals E.the-type E′.the-laws) (LL.tells E.the-type E′.the-laws) 64, (uint-tells w64, (shr-slice-tells (named 0) (κs .0) u8, (mut-slice-tells (named 1) (κs .1 .0) u8, (mut-slice-tells (named 2) (κs .1 .1 .0) u8, (mut-slice-tells (named 3) (κs .1 .1 .1 .0) u8, (shr-slice-tells (named 4) (κs .1 .1 .1 .1 .0) u8, (mut-slice-tells (named 5) (κs .1 .1 .1 .1 .1 .0) u8, tt))))))))))
@@ -260,7 +260,7 @@ module _ {M : Type 1} (𝓤 : URA M) (H : Heap 𝓤) (A : Atoms 𝓤) (W : Given
     ),
   )
 
-some-meets : {M : Type 1} (𝓤 : URA M) (H : Heap 𝓤) (A : Atoms 𝓤) → Given 𝓤 H A → (at-mem : Memory → SProp 𝓤) (run : Routine → Fun 𝓤) (𝓣 : Tables 𝓤 H) → Triple 𝓤 (𝓣 .C #lent·lesser) (Lesser 𝓤 H A at-mem run) → Triple 𝓤 (𝓣 .C #lent·run-batch) (Batch 𝓤 H A at-mem run)
+some-meets : {M : Type 1} (𝓤 : URA M) (H : Heap 𝓤) (A : Atoms 𝓤) → Given 𝓤 H A → (at-mem : Memory → SProp 𝓤) (run : Routine → Fun 𝓤) (𝓣 : Tables 𝓤 H) → Triple 𝓤 (𝓣 .C #in-place·lesser) (Lesser 𝓤 H A at-mem run) → Triple 𝓤 (𝓣 .C #in-place·run-batch) (Batch 𝓤 H A at-mem run)
     → Meets 𝓤 H A some.signature (WpFn 𝓤 H (𝓣 .C) (𝓣 .Λ) code.function) (some.spec 𝓤 H A at-mem run)
 some-meets 𝓤 H A W at-mem run 𝓣 known-lesser known =
     walk-meets 𝓤 H A some.ended stayed W (goes-on 𝓤 H A W at-mem run) (some.clauses 𝓤 H A at-mem run)
@@ -270,7 +270,7 @@ pub run-some-spec : {M : Type 1} → stated.statement M
 unfolding code.routine tablesOf
 run-some-spec 𝓤 H 𝓜 𝓖 𝓡 =
     entered 𝓤 H (tripleOf 𝓤 H (𝓖 .A) some.signature (some.spec 𝓤 H (𝓖 .A) (𝓜 .mem) (𝓡 .run)))
-    (tables 𝓤 H 𝓜 𝓡 code.env .C) (tables 𝓤 H 𝓜 𝓡 code.env .Λ) #lent·run-some code.function (code.unfolded 𝓤 H 𝓜 𝓡)
+    (tables 𝓤 H 𝓜 𝓡 code.env .C) (tables 𝓤 H 𝓜 𝓡 code.env .Λ) #in-place·run-some code.function (code.unfolded 𝓤 H 𝓜 𝓡)
     (some-meets 𝓤 H (𝓖 .A) (givenOf 𝓤 H 𝓜 𝓖) (𝓜 .mem) (𝓡 .run) (tablesOf 𝓤 H 𝓜 (tables 𝓤 H 𝓜 𝓡 code.env))
-    (cited 𝓤 H (Lesser 𝓤 H (𝓖 .A) (𝓜 .mem) (𝓡 .run)) 𝓜 𝓡 code.env #lent·lesser lesser-def.routine code.calls-lent·lesser (lesser-thm.met 𝓤 H 𝓜 𝓖 𝓡))
-    (cited 𝓤 H (Batch 𝓤 H (𝓖 .A) (𝓜 .mem) (𝓡 .run)) 𝓜 𝓡 code.env #lent·run-batch batch-def.routine code.calls-lent·run-batch (batch-thm.met 𝓤 H 𝓜 𝓖 𝓡)))
+    (cited 𝓤 H (Lesser 𝓤 H (𝓖 .A) (𝓜 .mem) (𝓡 .run)) 𝓜 𝓡 code.env #in-place·lesser lesser-def.routine code.calls-in-place·lesser (lesser-thm.met 𝓤 H 𝓜 𝓖 𝓡))
+    (cited 𝓤 H (Batch 𝓤 H (𝓖 .A) (𝓜 .mem) (𝓡 .run)) 𝓜 𝓡 code.env #in-place·run-batch batch-def.routine code.calls-in-place·run-batch (batch-thm.met 𝓤 H 𝓜 𝓖 𝓡)))

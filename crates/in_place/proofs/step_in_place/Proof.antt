@@ -56,9 +56,9 @@ use Rattle.step.proofs.Stepped as S
 use Rattle.step.proofs.Stepped.Laws as S′
 use Rattle.step.proofs.step as step
 use Rattle.step.proofs.step.Symbol as step-def
-use Rattle.step.proofs.step.Symbol.{name as #bench·step}
+use Rattle.step.proofs.step.Symbol.{name as #step·step}
 use Rattle.step.proofs.step.Met as step-thm
-use Rattle.in_place.proofs.step_in_place.Key.{name as #lent·step-in-place}
+use Rattle.in_place.proofs.step_in_place.Key.{name as #in-place·step-in-place}
 use Rattle.in_place.proofs.step_in_place as in-place
 use Rattle.in_place.proofs.step_in_place.Statement as stated
 use Rattle.in_place.proofs.step_in_place.Code as code
@@ -155,7 +155,7 @@ module _ {M : Type 1} (𝓤 : URA M) (H : Heap 𝓤) (A : Atoms 𝓤) (W : Given
       feqI ! (List Val) (vptr b o ∷ []) (vptr b o ∷ []) refl $ fjoin3 ! $ nothing ! $ nothing ! $ fjoin ! $ move ! (4 ∷ 0 ∷ []) $ fjoin ! $ move ! (3 ∷ 0 ∷ []) $ fjoin ! $ move ! (2 ∷ 0 ∷ []) $ fjoin ! $ nothing ! $ fjoin ! $ nothing ! $ fjoin ! $ move ! (1 ∷ 0 ∷ []) $ fjoin ! $
       owned ! R.the-row (Is R.the-row) (EL.makes R.the-type R′.the-plain 𝓤 H A) (r .reply) _ (LL.owed S.the-type S′.the-laws r _ is .0) $ move ! (1 ∷ 0 ∷ []) $ done !
 
-  module _ (C : Calls 𝓤 H) (Λ : Loops 𝓤 H) (fm : FmC 𝓤 H (W .laws) C) (known : Triple 𝓤 (C #bench·step) (Step 𝓤 H A at-mem run)) where
+  module _ (C : Calls 𝓤 H) (Λ : Loops 𝓤 H) (fm : FmC 𝓤 H (W .laws) C) (known : Triple 𝓤 (C #step·step) (Step 𝓤 H A at-mem run)) where
     walk : Is E.the-row e (vE e ∷ []) → Room u8 (length (params .now)) → Room u8 (length (array .now)) → Room u8 (length (registers .now)) → Room u8 (length (counts .now)) → Room u8 (length (flags .now))
         → ent 𝓤 (onEntry 𝓤 H A in-place.signature (κ, (κ-params, (κ-array, (κ-registers, (κ-counts, (κ-flags, tt)))))) (q, (q-params, (q-array, (q-registers, (q-counts, (q-flags, tt)))))) x at) (WpFn 𝓤 H C Λ code.function (vptr b o ∷ vE e ∷ vL params ∷ vL array ∷ vL registers ∷ vL counts ∷ vL flags ∷ []) Post)
     walk is-e room-params room-array room-registers room-counts room-flags =
@@ -194,7 +194,7 @@ module _ {M : Type 1} (𝓤 : URA M) (H : Heap 𝓤) (A : Atoms 𝓤) (W : Given
         keep ! (0 ∷ 1 ∷ 2 ∷ 4 ∷ 7 ∷ 6 ∷ 5 ∷ []) $ by ! (exits r (zs .1 .1 .1 .0) (zs .1 .1 .1 .1 .0) (zs .1 .1 .1 .1 .1 .0) says-so l-array l-registers l-counts is)))))))))))))))))))))))))))
 
 module _ {M : Type 1} (𝓤 : URA M) (H : Heap 𝓤) (A : Atoms 𝓤) (W : Given 𝓤 H A) (at-mem : Memory → SProp 𝓤) (run : Routine → Fun 𝓤) where
-  in-place-walks : (C : Calls 𝓤 H) (Λ : Loops 𝓤 H) → FmC 𝓤 H (W .laws) C → Triple 𝓤 (C #bench·step) (Step 𝓤 H A at-mem run) → Walks 𝓤 H A in-place.ended stayed (WpFn 𝓤 H C Λ code.function) (in-place.clauses 𝓤 H A at-mem run)
+  in-place-walks : (C : Calls 𝓤 H) (Λ : Loops 𝓤 H) → FmC 𝓤 H (W .laws) C → Triple 𝓤 (C #step·step) (Step 𝓤 H A at-mem run) → Walks 𝓤 H A in-place.ended stayed (WpFn 𝓤 H C Λ code.function) (in-place.clauses 𝓤 H A at-mem run)
   in-place-walks C Λ fm known = walked 𝓤 H A in-place.ended stayed (in-place.clauses 𝓤 H A at-mem run) (WpFn 𝓤 H C Λ code.function)
       (λ κs. (ptr-vals, (LL.vals E.the-type E′.the-laws, (slice-vals, (slice-vals, (slice-vals, (slice-vals, (slice-vals, tt))))))))
       (λ κs. (mut-tells (named 0) (κs .0) T.the-row, (LL.tells E.the-type E′.the-laws, (shr-slice-tells (named 1) (κs .1 .0) u8, (mut-slice-tells (named 2) (κs .1 .1 .0) u8, (mut-slice-tells (named 3) (κs .1 .1 .1 .0) u8, (mut-slice-tells (named 4) (κs .1 .1 .1 .1 .0) u8, (shr-slice-tells (named 5) (κs .1 .1 .1 .1 .1 .0) u8, tt))))))))
@@ -222,7 +222,7 @@ module _ {M : Type 1} (𝓤 : URA M) (H : Heap 𝓤) (A : Atoms 𝓤) (W : Given
     ),
   )
 
-in-place-meets : {M : Type 1} (𝓤 : URA M) (H : Heap 𝓤) (A : Atoms 𝓤) → Given 𝓤 H A → (at-mem : Memory → SProp 𝓤) (run : Routine → Fun 𝓤) (𝓣 : Tables 𝓤 H) → Triple 𝓤 (𝓣 .C #bench·step) (Step 𝓤 H A at-mem run)
+in-place-meets : {M : Type 1} (𝓤 : URA M) (H : Heap 𝓤) (A : Atoms 𝓤) → Given 𝓤 H A → (at-mem : Memory → SProp 𝓤) (run : Routine → Fun 𝓤) (𝓣 : Tables 𝓤 H) → Triple 𝓤 (𝓣 .C #step·step) (Step 𝓤 H A at-mem run)
     → Meets 𝓤 H A in-place.signature (WpFn 𝓤 H (𝓣 .C) (𝓣 .Λ) code.function) (in-place.spec 𝓤 H A at-mem run)
 in-place-meets 𝓤 H A W at-mem run 𝓣 known =
     walk-meets 𝓤 H A in-place.ended stayed W (goes-on 𝓤 H A W at-mem run) (in-place.clauses 𝓤 H A at-mem run)
@@ -232,6 +232,6 @@ pub step-in-place-spec : {M : Type 1} → stated.statement M
 unfolding code.routine tablesOf
 step-in-place-spec 𝓤 H 𝓜 𝓖 𝓡 =
     entered 𝓤 H (tripleOf 𝓤 H (𝓖 .A) in-place.signature (in-place.spec 𝓤 H (𝓖 .A) (𝓜 .mem) (𝓡 .run)))
-    (tables 𝓤 H 𝓜 𝓡 code.env .C) (tables 𝓤 H 𝓜 𝓡 code.env .Λ) #lent·step-in-place code.function (code.unfolded 𝓤 H 𝓜 𝓡)
+    (tables 𝓤 H 𝓜 𝓡 code.env .C) (tables 𝓤 H 𝓜 𝓡 code.env .Λ) #in-place·step-in-place code.function (code.unfolded 𝓤 H 𝓜 𝓡)
     (in-place-meets 𝓤 H (𝓖 .A) (givenOf 𝓤 H 𝓜 𝓖) (𝓜 .mem) (𝓡 .run) (tablesOf 𝓤 H 𝓜 (tables 𝓤 H 𝓜 𝓡 code.env))
-    (cited 𝓤 H (Step 𝓤 H (𝓖 .A) (𝓜 .mem) (𝓡 .run)) 𝓜 𝓡 code.env #bench·step step-def.routine code.calls-bench·step (step-thm.met 𝓤 H 𝓜 𝓖 𝓡)))
+    (cited 𝓤 H (Step 𝓤 H (𝓖 .A) (𝓜 .mem) (𝓡 .run)) 𝓜 𝓡 code.env #step·step step-def.routine code.calls-step·step (step-thm.met 𝓤 H 𝓜 𝓖 𝓡)))

@@ -57,9 +57,9 @@ use Rattle.step.proofs.Stepped as S
 use Rattle.step.proofs.Stepped.Laws as S′
 use Rattle.in_place.proofs.step_in_place as in-place
 use Rattle.in_place.proofs.step_in_place.Symbol as in-place-def
-use Rattle.in_place.proofs.step_in_place.Symbol.{name as #lent·step-in-place}
+use Rattle.in_place.proofs.step_in_place.Symbol.{name as #in-place·step-in-place}
 use Rattle.in_place.proofs.step_in_place.Met as in-place-thm
-use Rattle.in_place.proofs.step_lent.Key.{name as #lent·step-lent}
+use Rattle.in_place.proofs.step_lent.Key.{name as #in-place·step-lent}
 use Rattle.in_place.proofs.step_lent as lent
 use Rattle.in_place.proofs.step_lent.Statement as stated
 use Rattle.in_place.proofs.step_lent.Code as code
@@ -152,7 +152,7 @@ module _ {M : Type 1} (𝓤 : URA M) (H : Heap 𝓤) (A : Atoms 𝓤) (W : Given
     goes = qed W (‵ (flft (ν ∷ []) fullShare) ∷ (‵ (flft κ-params q-params) ⊛ ‵ (flft κ-array q-array) ⊛ ‵ (flft κ-registers q-registers) ⊛ ‵ (flft κ-counts q-counts) ⊛ ‵ (flft κ-flags q-flags) ⊛ ‵ ftrue) ∷ ‵ (MutRef (named 0) (ν ∷ []) T.the-row .own ref (vptr l 0 ∷ [])) ∷ ‵ (owns (E.the-row ∷ ShrSlice (named 1) κ-params u8 ∷ MutSlice (named 2) κ-array u8 ∷ MutSlice (named 3) κ-registers u8 ∷ MutSlice (named 4) κ-counts u8 ∷ ShrSlice (named 5) κ-flags u8 ∷ []) (x .1) (at .1)) ∷ []) ∵
         join ! $ move ! (1 ∷ 2 ∷ []) $ fjoin ! $ move ! (1 ∷ 0 ∷ []) $ join ! $ frame ! $ done !
 
-  module _ (C : Calls 𝓤 H) (Λ : Loops 𝓤 H) (fm : FmC 𝓤 H (W .laws) C) (known : Triple 𝓤 (C #lent·step-in-place) (InPlace 𝓤 H A at-mem run)) where
+  module _ (C : Calls 𝓤 H) (Λ : Loops 𝓤 H) (fm : FmC 𝓤 H (W .laws) C) (known : Triple 𝓤 (C #in-place·step-in-place) (InPlace 𝓤 H A at-mem run)) where
     walk : Is T.the-row t (vT t ∷ []) → Is E.the-row e (vE e ∷ []) → Room u8 (length (params .now)) → Room u8 (length (array .now)) → Room u8 (length (registers .now)) → Room u8 (length (counts .now)) → Room u8 (length (flags .now))
         → ent 𝓤 (onEntry 𝓤 H A lent.signature (κ-params, (κ-array, (κ-registers, (κ-counts, (κ-flags, tt))))) (q-params, (q-array, (q-registers, (q-counts, (q-flags, tt))))) x at) (WpFn 𝓤 H C Λ code.function (vT t ∷ vE e ∷ vL params ∷ vL array ∷ vL registers ∷ vL counts ∷ vL flags ∷ []) Post)
     walk is-t is-e room-params room-array room-registers room-counts room-flags =
@@ -188,7 +188,7 @@ module _ {M : Type 1} (𝓤 : URA M) (H : Heap 𝓤) (A : Atoms 𝓤) (W : Given
         keep ! (1 ∷ 5 ∷ 4 ∷ 3 ∷ []) $ by ! (exits r (zs .0) (zs .1 .1 .1 .0) (zs .1 .1 .1 .1 .0) (zs .1 .1 .1 .1 .1 .0) says-so l-array l-registers l-counts is))))))))))))))))))))))))))))))
 
 module _ {M : Type 1} (𝓤 : URA M) (H : Heap 𝓤) (A : Atoms 𝓤) (W : Given 𝓤 H A) (at-mem : Memory → SProp 𝓤) (run : Routine → Fun 𝓤) where
-  lent-walks : (C : Calls 𝓤 H) (Λ : Loops 𝓤 H) → FmC 𝓤 H (W .laws) C → Triple 𝓤 (C #lent·step-in-place) (InPlace 𝓤 H A at-mem run) → Walks 𝓤 H A lent.ended stayed (WpFn 𝓤 H C Λ code.function) (lent.clauses 𝓤 H A at-mem run)
+  lent-walks : (C : Calls 𝓤 H) (Λ : Loops 𝓤 H) → FmC 𝓤 H (W .laws) C → Triple 𝓤 (C #in-place·step-in-place) (InPlace 𝓤 H A at-mem run) → Walks 𝓤 H A lent.ended stayed (WpFn 𝓤 H C Λ code.function) (lent.clauses 𝓤 H A at-mem run)
   lent-walks C Λ fm known = walked 𝓤 H A lent.ended stayed (lent.clauses 𝓤 H A at-mem run) (WpFn 𝓤 H C Λ code.function)
       (λ κs. (LL.vals T.the-type T′.the-laws, (LL.vals E.the-type E′.the-laws, (slice-vals, (slice-vals, (slice-vals, (slice-vals, (slice-vals, tt))))))))
       (λ κs. (LL.tells T.the-type T′.the-laws, (LL.tells E.the-type E′.the-laws, (shr-slice-tells (named 0) (κs .0) u8, (mut-slice-tells (named 1) (κs .1 .0) u8, (mut-slice-tells (named 2) (κs .1 .1 .0) u8, (mut-slice-tells (named 3) (κs .1 .1 .1 .0) u8, (shr-slice-tells (named 4) (κs .1 .1 .1 .1 .0) u8, tt))))))))
@@ -216,7 +216,7 @@ module _ {M : Type 1} (𝓤 : URA M) (H : Heap 𝓤) (A : Atoms 𝓤) (W : Given
     ),
   )
 
-lent-meets : {M : Type 1} (𝓤 : URA M) (H : Heap 𝓤) (A : Atoms 𝓤) → Given 𝓤 H A → (at-mem : Memory → SProp 𝓤) (run : Routine → Fun 𝓤) (𝓣 : Tables 𝓤 H) → Triple 𝓤 (𝓣 .C #lent·step-in-place) (InPlace 𝓤 H A at-mem run)
+lent-meets : {M : Type 1} (𝓤 : URA M) (H : Heap 𝓤) (A : Atoms 𝓤) → Given 𝓤 H A → (at-mem : Memory → SProp 𝓤) (run : Routine → Fun 𝓤) (𝓣 : Tables 𝓤 H) → Triple 𝓤 (𝓣 .C #in-place·step-in-place) (InPlace 𝓤 H A at-mem run)
     → Meets 𝓤 H A lent.signature (WpFn 𝓤 H (𝓣 .C) (𝓣 .Λ) code.function) (lent.spec 𝓤 H A at-mem run)
 lent-meets 𝓤 H A W at-mem run 𝓣 known =
     walk-meets 𝓤 H A lent.ended stayed W (goes-on 𝓤 H A W at-mem run) (lent.clauses 𝓤 H A at-mem run)
@@ -226,6 +226,6 @@ pub step-lent-spec : {M : Type 1} → stated.statement M
 unfolding code.routine tablesOf
 step-lent-spec 𝓤 H 𝓜 𝓖 𝓡 =
     entered 𝓤 H (tripleOf 𝓤 H (𝓖 .A) lent.signature (lent.spec 𝓤 H (𝓖 .A) (𝓜 .mem) (𝓡 .run)))
-    (tables 𝓤 H 𝓜 𝓡 code.env .C) (tables 𝓤 H 𝓜 𝓡 code.env .Λ) #lent·step-lent code.function (code.unfolded 𝓤 H 𝓜 𝓡)
+    (tables 𝓤 H 𝓜 𝓡 code.env .C) (tables 𝓤 H 𝓜 𝓡 code.env .Λ) #in-place·step-lent code.function (code.unfolded 𝓤 H 𝓜 𝓡)
     (lent-meets 𝓤 H (𝓖 .A) (givenOf 𝓤 H 𝓜 𝓖) (𝓜 .mem) (𝓡 .run) (tablesOf 𝓤 H 𝓜 (tables 𝓤 H 𝓜 𝓡 code.env))
-    (cited 𝓤 H (InPlace 𝓤 H (𝓖 .A) (𝓜 .mem) (𝓡 .run)) 𝓜 𝓡 code.env #lent·step-in-place in-place-def.routine code.calls-lent·step-in-place (in-place-thm.met 𝓤 H 𝓜 𝓖 𝓡)))
+    (cited 𝓤 H (InPlace 𝓤 H (𝓖 .A) (𝓜 .mem) (𝓡 .run)) 𝓜 𝓡 code.env #in-place·step-in-place in-place-def.routine code.calls-in-place·step-in-place (in-place-thm.met 𝓤 H 𝓜 𝓖 𝓡)))
