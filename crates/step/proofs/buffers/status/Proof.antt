@@ -1,5 +1,6 @@
 -- `step::buffers::status` meets its contract.
 -- Assumes nothing.
+use Rattle.step.specs.Buffers.{statusOf}
 use borrow.Author.Needs.{needs}
 use Rattle.step.proofs.buffers.status.Statement.{statement}
 use Rattle.step.proofs.buffers.status.Tie as tie
@@ -23,7 +24,16 @@ add-result-2 : tie.Need-add-result-2
 add-result-2 c = search needs
 
 returns : tie.Need-returns
-returns c = ?
+unfolding statusOf
+returns c =
+    let c2 = c .before .before in
+    let c5 = c2 .before .before .before in
+    rw (
+      c .weigh3 .ensures .0,
+      c2 .weigh2 .ensures .0,
+      c2 .before .weigh .ensures .0,
+      c5 .lun-at .ensures,
+    )
 
 pub status-spec : {M : Type 1} → statement M
 status-spec =
