@@ -11,6 +11,7 @@ file the part up to the line '-- at exit' (its comment and its `use` lines) is k
 For other slices, change SLICES and the names below it, and the contracts in src/lib.rt: SLICES are those of the step, in the order
 of its parameters after the record and the event. The batch has `replies` after them, and run_some an array of SIZE events.
 """
+import re
 import sys
 
 SUB = '₀₁₂₃₄₅₆₇₈₉'
@@ -291,7 +292,8 @@ vL x = sliceVal (x .ptr) (length (x .now))
     w('        opens ! tt T.the-row {h = t .now} b o %s spelt ! T.the-row (Is T.the-row) (shows 𝓤 H A T.the-row) (LL.vals T.the-type T′.the-laws) (LL.tells T.the-type T′.the-laws) fullShare (t .now) vs b o $' % c.lam('vs'))
     w('        ' + c.move('own-t') + 'peeks ! T.the-row (Is T.the-row) (shows 𝓤 H A T.the-row) (t .now) (vT (t .now) ∷ []) ' + c.lam('is-t'))
     w('        -- [what the record owns; its cell; the open borrow; obs; auth; the other tokens; what the rest owns; the locals, the last one first]')
-    w('        assigns ! (of-opd ! (load ! (from ! (hop ! %s (stop !))) (look-raw ! %d refl))) %s $' % (c.look('_1'), c.at('cell'), c.init('_%d' % TT, '(LL.lawful T.the-type T′.the-laws 𝓤 H A W .typed (t .now) _ is-t .0)')))
+    w('        rewrite ! %d (λ (τ : Ty). ‵ (fat fullShare (rawTy τ) b o (vT (t .now)))) same-T refl $' % c.at('cell'))
+    w('        assigns ! (of-opd ! (load ! (from ! (hop ! %s (stop !))) (look-raw ! %d {τ = T′.mir} refl))) %s $' % (c.look('_1'), c.at('cell'), c.init('_%d' % TT, '(LL.lawful T.the-type T′.the-laws 𝓤 H A W .typed (t .now) _ is-t .0)')))
     for s in muts:
         w('        ' + c.relend('_%d' % par[s], '_%d' % ref[s], '_%d' % (ref[s] + 1), s))
     w('        -- the record, the event and the slices go to `step`')
@@ -317,6 +319,7 @@ vL x = sliceVal (x .ptr) (length (x .now))
     w('        assigns ! (of-opd ! %s) (from ! (hop ! %s (stop !))) (store-raw ! %d refl (LL.lawful T.the-type T′.the-laws 𝓤 H A W .typed (r .target) _ (fields .1 .0) .0)) $' % (c.known('_%d' % S, 1, STEPPED, TARGET_AT), c.look('_1'), c.at('cell')))
     w('        assigns ! (of-opd ! %s) %s $' % (c.known('_%d' % S, 0, STEPPED, 0), c.init('_0', '(EL.lawful R.the-type R′.the-laws 𝓤 H A W tt .typed (r .reply) _ (fields .0) .0)')))
     w('        -- the borrow is closed at the new record')
+    w('        rewrite ! %d (λ (τ : Ty). ‵ (fat fullShare (rawTy τ) b o (vT (r .target)))) (sym same-T) refl $' % c.at('cell'))
     c.xs.insert(0, 'own-t')
     w('        owned ! T.the-row (Is T.the-row) (LL.makes T.the-type T′.the-plain 𝓤 H A) (r .target) _ (fields .1 .0) $ ' + c.move('cell', 'own-t', 'obor', 'obs', 'auth') + 'closes ! tt T.the-row (r .target) (vT (r .target) ∷ []) b o $')
     c.swap(5, ['obs', 'bor', 'tok'])
@@ -1119,6 +1122,39 @@ step-lent-spec 𝓤 H 𝓜 𝓖 𝓡 =
     return '\n'.join(o) + '\n'
 
 
+# the types that are large: how a walk calls them, and whether it is a struct's laws or an enum's
+LARGE = {'T': ('Target', 'LL', ''), 'S': ('Stepped', 'LL', ''), 'N': ('Ran', 'LL', ''), 'R': ('Reply', 'EL', ' tt')}
+
+OWN = '''-- The large types as the function's own table spells them, and what may be stored at them. A walk that compared two spellings of such a
+-- type at each step would take more steps than antt allows a proof; here each comparison stands by itself.
+abbrev typeOf : Local → Ty
+typeOf (local τ h) = τ
+'''
+
+
+def own_types(text, at):
+    """The walk with its large types spelled by the function's own table. `at` says which local has which of them."""
+    lemmas = OWN
+    for x, k in at.items():
+        name, laws, more = LARGE[x]
+        lemmas += '''
+abbrev ty%(x)s : Ty
+ty%(x)s = spell pieces.table (typeOf (getD pieces.by-name-locals %(k)d (local tyUnit valueLocal)))
+
+same-%(x)s : %(x)s′.mir ≡ ty%(x)s
+same-%(x)s = refl
+
+typed-%(x)s : {M : Type 1} (𝓤 : URA M) (H : Heap 𝓤) (A : Atoms 𝓤) (W : Given 𝓤 H A) (x : %(name)s) (v : Val) → Is %(x)s.the-row x (v ∷ []) → Holds (hasTy ty%(x)s v) × WT v
+typed-%(x)s 𝓤 H A W x v is = %(laws)s.lawful %(x)s.the-type %(x)s′.the-laws 𝓤 H A W%(more)s .typed x (v ∷ []) is .0
+''' % dict(x=x, k=k, name=name, laws=laws, more=more)
+        one = r'(\([^()]*(?:\([^()]*\)[^()]*)*\)|[^\s()]+)'
+        text = re.sub(r'(init|store|store-raw) ! (\d+) refl \(%s\.lawful %s\.the-type %s′\.the-laws 𝓤 H A W%s \.typed %s _ %s \.0\)' % (laws, x, x, more, one, one),
+                      r'\1 ! \2 {τ = ty%s} refl (typed-%s 𝓤 H A W \3 _ \4)' % (x, x), text)
+        text = text.replace('%s′.mir' % x, 'ty%s' % x)
+    i = text.index('module _ {M : Type 1}')
+    return text[:i] + lemmas + '\n' + text[i:]
+
+
 def write(path, text):
     old = open(path).read()
     head = old[:old.index('-- at exit')]
@@ -1127,7 +1163,8 @@ def write(path, text):
 
 if __name__ == '__main__':
     proofs, batched = sys.argv[1], SLICES + [('replies', 'mut')]
-    write(proofs + '/step_in_place/Proof.antt', in_place(SLICES))
-    write(proofs + '/step_lent/Proof.antt', lent(SLICES))
-    write(proofs + '/run_batch/Proof.antt', batch(batched))
-    write(proofs + '/run_some/Proof.antt', some(batched, SIZE))
+    m, muts = len(SLICES), len([s for s, k in SLICES if k == 'mut'])
+    write(proofs + '/step_in_place/Proof.antt', own_types(in_place(SLICES), {'T': m + 4, 'S': m + 3, 'R': 0}))
+    write(proofs + '/step_lent/Proof.antt', own_types(lent(SLICES), {'T': 1, 'S': 0, 'R': m + 4}))
+    write(proofs + '/run_batch/Proof.antt', own_types(batch(batched), {'T': 1, 'N': 0}))
+    write(proofs + '/run_some/Proof.antt', own_types(some(batched, SIZE), {'T': 1, 'N': 0}))
