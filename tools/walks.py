@@ -1123,7 +1123,7 @@ step-lent-spec 𝓤 H 𝓜 𝓖 𝓡 =
 
 
 # the types that are large: how a walk calls them, and whether it is a struct's laws or an enum's
-LARGE = {'T': ('Target', 'LL', ''), 'S': ('Stepped', 'LL', ''), 'N': ('Ran', 'LL', ''), 'R': ('Reply', 'EL', ' tt')}
+LARGE = {'T': ('Target', 'LL', ''), 'S': ('Stepped', 'LL', ''), 'N': ('Ran', 'LL', ''), 'P': ('Plan', 'LL', ''), 'R': ('Reply', 'EL', ' tt')}
 
 OWN = '''-- The large types as the function's own table spells them, and what may be stored at them. A walk that compared two spellings of such a
 -- type at each step would take more steps than antt allows a proof; here each comparison stands by itself.
@@ -1132,25 +1132,25 @@ typeOf (local τ h) = τ
 '''
 
 
-def own_types(text, at):
-    """The walk with its large types spelled by the function's own table. `at` says which local has which of them."""
+def own_types(text, at, small=''):
+    """The walk with its large types spelled by the function's own table. `at` says which local has which of them. Of `small` ones
+    only what is stored is cut off."""
     lemmas = OWN
     for x, k in at.items():
         name, laws, more = LARGE[x]
+        same = 'same-%s : %s′.mir ≡ ty%s\nsame-%s = refl\n\n' % (x, x, x, x) if 'same-' + x in text else ''
         lemmas += '''
 abbrev ty%(x)s : Ty
 ty%(x)s = spell pieces.table (typeOf (getD pieces.by-name-locals %(k)d (local tyUnit valueLocal)))
 
-same-%(x)s : %(x)s′.mir ≡ ty%(x)s
-same-%(x)s = refl
-
-typed-%(x)s : {M : Type 1} (𝓤 : URA M) (H : Heap 𝓤) (A : Atoms 𝓤) (W : Given 𝓤 H A) (x : %(name)s) (v : Val) → Is %(x)s.the-row x (v ∷ []) → Holds (hasTy ty%(x)s v) × WT v
+%(same)styped-%(x)s : {M : Type 1} (𝓤 : URA M) (H : Heap 𝓤) (A : Atoms 𝓤) (W : Given 𝓤 H A) (x : %(name)s) (v : Val) → Is %(x)s.the-row x (v ∷ []) → Holds (hasTy ty%(x)s v) × WT v
 typed-%(x)s 𝓤 H A W x v is = %(laws)s.lawful %(x)s.the-type %(x)s′.the-laws 𝓤 H A W%(more)s .typed x (v ∷ []) is .0
-''' % dict(x=x, k=k, name=name, laws=laws, more=more)
+''' % dict(x=x, k=k, name=name, laws=laws, more=more, same=same)
         one = r'(\([^()]*(?:\([^()]*\)[^()]*)*\)|[^\s()]+)'
         text = re.sub(r'(init|store|store-raw) ! (\d+) refl \(%s\.lawful %s\.the-type %s′\.the-laws 𝓤 H A W%s \.typed %s _ %s \.0\)' % (laws, x, x, more, one, one),
                       r'\1 ! \2 {τ = ty%s} refl (typed-%s 𝓤 H A W \3 _ \4)' % (x, x), text)
-        text = text.replace('%s′.mir' % x, 'ty%s' % x)
+        if x not in small:
+            text = text.replace('%s′.mir' % x, 'ty%s' % x)
     i = text.index('module _ {M : Type 1}')
     return text[:i] + lemmas + '\n' + text[i:]
 
@@ -1166,5 +1166,5 @@ if __name__ == '__main__':
     m, muts = len(SLICES), len([s for s, k in SLICES if k == 'mut'])
     write(proofs + '/step_in_place/Proof.antt', own_types(in_place(SLICES), {'T': m + 4, 'S': m + 3, 'R': 0}))
     write(proofs + '/step_lent/Proof.antt', own_types(lent(SLICES), {'T': 1, 'S': 0, 'R': m + 4}))
-    write(proofs + '/run_batch/Proof.antt', own_types(batch(batched), {'T': 1, 'N': 0}))
+    write(proofs + '/run_batch/Proof.antt', own_types(batch(batched), {'T': 1, 'N': 0, 'P': len(batched) + 3}, small='P'))
     write(proofs + '/run_some/Proof.antt', own_types(some(batched, SIZE), {'T': 1, 'N': 0}))

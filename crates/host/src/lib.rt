@@ -3,7 +3,6 @@
 // Numbers that no record packs to stand for a target that is not powered, and stay as they are.
 pub mod numbers;
 
-use step::Stepped;
 use numbers::Cycles;
 use numbers::Place;
 use numbers::four_marks;
@@ -20,9 +19,7 @@ use numbers::to_output;
 use numbers::to_sequence;
 use power::power_number;
 use power::unpowered;
-use unread::Source;
-use unread::Unread;
-use unread::unread_part;
+use step::Stepped;
 use target::Decoder;
 use target::Event;
 use target::Geometry;
@@ -33,6 +30,9 @@ use target::Words;
 use target::reply_first;
 use target::reply_second;
 use trace::run_number;
+use unread::Source;
+use unread::Unread;
+use unread::unread_part;
 ghost use mathlib.Core.Path.{_≡_};
 ghost use lib.ListN.{length};
 ghost use Rattle.target.specs.Pick.{pick};

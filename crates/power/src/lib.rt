@@ -1,6 +1,4 @@
 // Power-on: from a parameter page and the lent buffers to a powered target, or to the right refusal.
-use slices::at_most;
-use slices::fill;
 use page::fields::blocks_a_lun;
 use page::fields::data_bytes;
 use page::fields::features;
@@ -13,6 +11,8 @@ use page::fields::spare_bytes;
 use page::limits::crc_good;
 use page::limits::fields_in_limits;
 use page::limits::is_signed;
+use slices::at_most;
+use slices::fill;
 use target::Decoder;
 use target::Geometry;
 use target::Ids;

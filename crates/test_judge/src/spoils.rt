@@ -171,7 +171,11 @@ fn legal_sequence(p: Geometry, g: &State, what: usize) -> Sequence {
     match what {
         43 => filling(row_of(g, lun, 0, 0), end),
         44 => due(First::Erase, 0, row_of(g, lun, last, page)),
-        45 => due(First::ChangeColumnEnhanced, column, row_of(g, lun, block, page)),
+        45 => due(
+            First::ChangeColumnEnhanced,
+            column,
+            row_of(g, lun, block, page),
+        ),
         _ => due(First::Read, column, row_of(g, lun, last, sub(p.pages, 1))),
     }
 }

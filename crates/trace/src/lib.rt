@@ -1,11 +1,11 @@
 // Byte traces: two-byte records in, two-byte replies out, over the proved step.
 pub mod bursts;
 
+use bursts::burst;
+use bursts::may_burst;
 use step::Stepped;
 use step::steady;
 use step::usable::usable;
-use bursts::burst;
-use bursts::may_burst;
 use target::Event;
 use target::Refusal;
 use target::Reply;

@@ -84,15 +84,28 @@ use Rattle.in_place.proofs.run_batch.Code.Mir as pieces
 
 -- at exit: the `&mut` slices are still owned, at their last lists; of the rest nothing is had
 abbrev stayed : Stays (batch.ended .signature .params) (batch.ended .kept)
-stayed =
-    (stay-dropped (plain (λ _. T.the-row)) yes,
-    (stay-dropped (shrSliceOf (0 ∷ []) tt (plain (λ _. E.the-row))) yes,
-    (stay-dropped (shrSliceOf (1 ∷ []) tt (plain (λ _. u8))) yes,
-    (stay-slice (2 ∷ []) tt (plain (λ _. u8)),
-    (stay-slice (3 ∷ []) tt (plain (λ _. u8)),
-    (stay-slice (4 ∷ []) tt (plain (λ _. u8)),
-    (stay-dropped (shrSliceOf (5 ∷ []) tt (plain (λ _. u8))) yes,
-    (stay-slice (6 ∷ []) tt (plain (λ _. u8)), tt))))))))
+stayed = (
+  stay-dropped (plain (λ _. T.the-row)) yes,
+  (
+    stay-dropped (shrSliceOf (0 ∷ []) tt (plain (λ _. E.the-row))) yes,
+    (
+      stay-dropped (shrSliceOf (1 ∷ []) tt (plain (λ _. u8))) yes,
+      (
+        stay-slice (2 ∷ []) tt (plain (λ _. u8)),
+        (
+          stay-slice (3 ∷ []) tt (plain (λ _. u8)),
+          (
+            stay-slice (4 ∷ []) tt (plain (λ _. u8)),
+            (
+              stay-dropped (shrSliceOf (5 ∷ []) tt (plain (λ _. u8))) yes,
+              (stay-slice (6 ∷ []) tt (plain (λ _. u8)), tt),
+            ),
+          ),
+        ),
+      ),
+    ),
+  ),
+)
 
 -- the contracts that the proof cites
 -- The large types as the function's own table spells them, and what may be stored at them. A walk that compared two spellings of such a
@@ -103,20 +116,20 @@ typeOf (local τ h) = τ
 abbrev tyT : Ty
 tyT = spell pieces.table (typeOf (getD pieces.by-name-locals 1 (local tyUnit valueLocal)))
 
-same-T : T′.mir ≡ tyT
-same-T = refl
-
 typed-T : {M : Type 1} (𝓤 : URA M) (H : Heap 𝓤) (A : Atoms 𝓤) (W : Given 𝓤 H A) (x : Target) (v : Val) → Is T.the-row x (v ∷ []) → Holds (hasTy tyT v) × WT v
 typed-T 𝓤 H A W x v is = LL.lawful T.the-type T′.the-laws 𝓤 H A W .typed x (v ∷ []) is .0
 
 abbrev tyN : Ty
 tyN = spell pieces.table (typeOf (getD pieces.by-name-locals 0 (local tyUnit valueLocal)))
 
-same-N : N′.mir ≡ tyN
-same-N = refl
-
 typed-N : {M : Type 1} (𝓤 : URA M) (H : Heap 𝓤) (A : Atoms 𝓤) (W : Given 𝓤 H A) (x : Ran) (v : Val) → Is N.the-row x (v ∷ []) → Holds (hasTy tyN v) × WT v
 typed-N 𝓤 H A W x v is = LL.lawful N.the-type N′.the-laws 𝓤 H A W .typed x (v ∷ []) is .0
+
+abbrev tyP : Ty
+tyP = spell pieces.table (typeOf (getD pieces.by-name-locals 9 (local tyUnit valueLocal)))
+
+typed-P : {M : Type 1} (𝓤 : URA M) (H : Heap 𝓤) (A : Atoms 𝓤) (W : Given 𝓤 H A) (x : Plan) (v : Val) → Is P.the-row x (v ∷ []) → Holds (hasTy tyP v) × WT v
+typed-P 𝓤 H A W x v is = LL.lawful P.the-type P′.the-laws 𝓤 H A W .typed x (v ∷ []) is .0
 
 module _ {M : Type 1} (𝓤 : URA M) (H : Heap 𝓤) (A : Atoms 𝓤) (at-mem : Memory → SProp 𝓤) (run : Routine → Fun 𝓤) where
   abbrev Planned : Contract 𝓤
@@ -215,7 +228,7 @@ module _ {M : Type 1} (𝓤 : URA M) (H : Heap 𝓤) (A : Atoms 𝓤) (W : Given
       suffices ! _ (ends-at 𝓤 H A batch.ended stayed (batch.clauses 𝓤 H A at-mem run) W (((κ-events, (κ-params, (κ-array, (κ-registers, (κ-counts, (κ-flags, (κ-replies, tt))))))), (q-events, (q-params, (q-array, (q-registers, (q-counts, (q-flags, (q-replies, tt))))))), tt, args, at), tt) _ (ran x) (tt, (tt, (tt, (x .s .buffers .array, (x .s .buffers .registers, (x .s .buffers .counts, (tt, (x .s .room, tt)))))))) (tt, (tt, (tt, (x .l-array, (x .l-registers, (x .l-counts, (tt, (x .l-replies, tt))))))))) $
       says ! (batched (params .now) (flags .now) (events .now) t₀ (held (array .now) (registers .now) (counts .now)) (replies .now) (x .s) (ended (params .now) (flags .now) (events .now) n (count-le _ _) nobody (x .s) _ (subst (λ (m : ℕ). ranAll (params .now) (flags .now) (drop m (take n (events .now))) (x .s) ≡ ranAll (params .now) (flags .now) (take n (events .now)) (running t₀ 0 (array .now) (registers .now) (counts .now) (replies .now))) all (x .left)))) $
       nothing ! $ move ! (1 ∷ 2 ∷ 3 ∷ 4 ∷ 5 ∷ 6 ∷ 7 ∷ 0 ∷ []) $ group ! 8 $ frame ! $
-      nothing ! $ move ! (4 ∷ 0 ∷ []) $ fjoin ! $ nothing ! $ fjoin ! $ move ! (3 ∷ 0 ∷ []) $ fjoin ! $ move ! (2 ∷ 0 ∷ []) $ fjoin ! $ move ! (1 ∷ 0 ∷ []) $ fjoin ! $ nothing ! $ fjoin ! $ nothing ! $ fjoin ! $ nothing ! $ fjoin ! $ 
+      nothing ! $ move ! (4 ∷ 0 ∷ []) $ fjoin ! $ nothing ! $ fjoin ! $ move ! (3 ∷ 0 ∷ []) $ fjoin ! $ move ! (2 ∷ 0 ∷ []) $ fjoin ! $ move ! (1 ∷ 0 ∷ []) $ fjoin ! $ nothing ! $ fjoin ! $ nothing ! $ fjoin ! $ nothing ! $ fjoin ! $
       owned ! N.the-row (Is N.the-row) (LL.makes N.the-type N′.the-plain 𝓤 H A) (ran x) _ (is-ran is-p x) $ move ! (1 ∷ 0 ∷ []) $ done !
 
   -- what `batch_plan` asks, and what its triple binds outside
@@ -247,7 +260,7 @@ module _ {M : Type 1} (𝓤 : URA M) (H : Heap 𝓤) (A : Atoms 𝓤) (W : Given
     goes-one is-e less fits =
         qed W (‵ (flft κ-params q-params) ∷ ‵ (flft (ν-array ∷ []) fullShare) ∷ ‵ (flft (ν-registers ∷ []) fullShare) ∷ ‵ (flft (ν-counts ∷ []) fullShare) ∷ ‵ (flft κ-flags q-flags) ∷ ‵ (flft (ν-replies ∷ []) fullShare) ∷ ‵ (ShrSlice (named 1) κ-params u8 .own params (vL params ∷ [])) ∷ Lent ν-array δ-array array (x .s .buffers .array) ∷ Lent ν-registers δ-registers registers (x .s .buffers .registers) ∷ Lent ν-counts δ-counts counts (x .s .buffers .counts) ∷ ‵ (ShrSlice (named 5) κ-flags u8 .own flags (vL flags ∷ [])) ∷ Lent ν-replies δ-replies replies (x .s .room) ∷ []) ∵
         says ! (subst (λ (m : ℕ). 2 * x .s .done + 1 < m) (sym (x .l-replies)) (count-room (length (events .now)) _ _ less)) $ nothing ! $ move ! (1 ∷ 2 ∷ 3 ∷ 4 ∷ 5 ∷ 6 ∷ 0 ∷ []) $ group ! 7 $ frame ! $
-        nothing ! $ move ! (6 ∷ 0 ∷ []) $ fjoin ! $ move ! (5 ∷ 0 ∷ []) $ fjoin ! $ move ! (4 ∷ 0 ∷ []) $ fjoin ! $ move ! (3 ∷ 0 ∷ []) $ fjoin ! $ move ! (2 ∷ 0 ∷ []) $ fjoin ! $ move ! (1 ∷ 0 ∷ []) $ fjoin ! $ 
+        nothing ! $ move ! (6 ∷ 0 ∷ []) $ fjoin ! $ move ! (5 ∷ 0 ∷ []) $ fjoin ! $ move ! (4 ∷ 0 ∷ []) $ fjoin ! $ move ! (3 ∷ 0 ∷ []) $ fjoin ! $ move ! (2 ∷ 0 ∷ []) $ fjoin ! $ move ! (1 ∷ 0 ∷ []) $ fjoin ! $
         owned ! usize (Is usize) (uint-makes 𝓤 H A W w64) (x .s .done) _ (refl, fits) $ fjoin ! $ owned ! E.the-row (Is E.the-row) (LL.makes E.the-type E′.the-plain 𝓤 H A) ev _ is-e $ fjoin ! $
         owned ! T.the-row (Is T.the-row) (LL.makes T.the-type T′.the-plain 𝓤 H A) (x .s .target) _ (x .is-t) $ fjoin ! $ done !
 
@@ -329,7 +342,7 @@ module _ {M : Type 1} (𝓤 : URA M) (H : Heap 𝓤) (A : Atoms 𝓤) (W : Given
         -- the event is copied out of the events' borrow
         assigns ! (bin ! (load ! (from ! (stop !)) (look ! 42 refl)) (lit ! tt) (record { fits = twice })) (from ! (stop !)) (init ! 34 refl (tt, record { fits = twice })) $
         assigns ! (bin ! (load ! (from ! (fld ! refl (stop !))) (look-in ! 58 (sub ! 0 refl (whole !)))) (load ! (from ! (stop !)) (look ! 34 refl)) tt) (from ! (stop !)) (init ! 32 refl (tt, tt)) $
-        rewrite ! 32 (λ (o : ℕ). ‵ (fat fullShare tyPtr l₁₅ 0 (vptr (events .ptr .0) o))) (sym (place-is 2 (events .ptr .1) (x .s .done))) refl $ move ! (12 ∷ 13 ∷ []) $ 
+        rewrite ! 32 (λ (o : ℕ). ‵ (fat fullShare tyPtr l₁₅ 0 (vptr (events .ptr .0) o))) (sym (place-is 2 (events .ptr .1) (x .s .done))) refl $ move ! (12 ∷ 13 ∷ []) $
         looks-slice ! tt E.the-row (Is E.the-row) (shows 𝓤 H A E.the-row) (LL.vals E.the-type E′.the-laws) (LL.tells E.the-type E′.the-laws) (LL.copy E.the-type E′.the-copy 𝓤 H A W) (events .now) (events .ptr .0) (events .ptr .1) (λ q′.
         elem-out ! E.the-row (Is E.the-row) (shows 𝓤 H A E.the-row) (LL.vals E.the-type E′.the-laws) (LL.tells E.the-type E′.the-laws) q′ (events .now) (x .s .done) nobody (events .ptr .0) (events .ptr .1) within (λ is-e.
         -- [the element's cell; what it owns; the others; what shuts; the events' borrow; the slices, with their tokens; the locals]
@@ -366,7 +379,7 @@ module _ {M : Type 1} (𝓤 : URA M) (H : Heap 𝓤) (A : Atoms 𝓤) (W : Given
         move ! (6 ∷ 12 ∷ 9 ∷ []) $ back ! tt u8 (named 6) (named 0) (at-last replies (x .s .room)) (zs .1 .1 .1 .1 .1 .1 .1 .1 .0) (length (replies .now)) room-replies (x .l-replies) l-replies $
         assigns-last ! (bin ! (load ! (from ! (stop !)) (look ! 42 refl)) (lit ! tt) (record { fits = next-fits })) (from ! (stop !)) (store ! 42 refl (tt, record { fits = next-fits })) $
         forget ! 36 refl $ forget ! 34 refl $ forget ! 32 refl $ forget ! 30 refl $ forget ! 28 refl $ forget ! 26 refl $ forget ! 24 refl $ forget ! 22 refl $ forget ! 20 refl $ forget ! 18 refl $ forget ! 16 refl $ forget ! 14 refl $
-        move ! (6 ∷ 7 ∷ 4 ∷ 5 ∷ 2 ∷ 3 ∷ 0 ∷ 1 ∷ 11 ∷ 9 ∷ 10 ∷ 8 ∷ 13 ∷ 12 ∷ []) $ 
+        move ! (6 ∷ 7 ∷ 4 ∷ 5 ∷ 2 ∷ 3 ∷ 0 ∷ 1 ∷ 11 ∷ 9 ∷ 10 ∷ 8 ∷ 13 ∷ 12 ∷ []) $
         again ! Nearer At x (next-turn x less r (zs .1 .1 .1 .1 .0) (zs .1 .1 .1 .1 .1 .0) (zs .1 .1 .1 .1 .1 .1 .0) (zs .1 .1 .1 .1 .1 .1 .1 .1 .0) says-so (subst (Is T.the-row r) (LL.tells T.the-type T′.the-laws r _ is) is) l-array l-registers l-counts l-replies) nearer)))))))))))))))
       where
         e : Event
@@ -422,10 +435,10 @@ module _ {M : Type 1} (𝓤 : URA M) (H : Heap 𝓤) (A : Atoms 𝓤) (W : Given
         calls-at ! (fmOf 𝓤 H (W .laws) 𝓣) (Planned 𝓤 H A at-mem run) known-plan to-plan (and-then ! (load ! (from ! (stop !)) (look ! 27 refl)) (and-then ! (load ! (from ! (stop !)) (look ! 25 refl)) (no-more !))) (λ v.
         use1 W (later (some (λ (r : Plan). (‵ ftrue ⊛ ‵ (P.the-row .own r (v ∷ []))) ⊛ raw (ensured 𝓤 H A plan.ended (plan.clauses 𝓤 H A at-mem run) tt (length (events .now), (length (replies .now), tt)) tt r)))) (id⊢ 𝓤 _) $ await ! tt $ pick ! (λ r.
         split ! $ move ! (1 ∷ []) $ use1 W (raw (fact 𝓤 (r ≡ p))) (planned 𝓤 H A at-mem run (length (events .now)) (length (replies .now)) r) $ heard ! (r ≡ p) (λ e. split ! $ lose ! $ peeks ! P.the-row (Is P.the-row) (shows 𝓤 H A P.the-row) r (v ∷ []) (λ is.
-        land ! (from ! (stop !)) (init ! 31 refl (LL.lawful P.the-type P′.the-laws 𝓤 H A W .typed r _ is .0)) $ rewrite ! 31 (λ (u : Val). ‵ (fat fullShare P′.mir l₉ 0 u)) (ap only (LL.tells P.the-type P′.the-laws r _ is) ∙ ap vP e) refl $ lose ! $
+        land ! (from ! (stop !)) (init ! 31 {τ = tyP} refl (typed-P 𝓤 H A W r _ is)) $ rewrite ! 31 (λ (u : Val). ‵ (fat fullShare P′.mir l₉ 0 u)) (ap only (LL.tells P.the-type P′.the-laws r _ is) ∙ ap vP e) refl $ lose ! $
         assigns ! (of-opd ! (lit ! tt)) (from ! (stop !)) (init ! 28 refl (tt, record { fits = lit< tt })) $ forget ! 26 refl $ forget ! 24 refl $
         move ! (50 ∷ []) $ split ! $ move ! (1 ∷ []) $ split ! $ move ! (1 ∷ []) $ split ! $ move ! (1 ∷ []) $ split ! $ move ! (1 ∷ []) $ split ! $ move ! (1 ∷ []) $ split ! $ move ! (1 ∷ []) $ split ! $ move ! (1 ∷ []) $ lose ! $
-        move ! (57 ∷ []) $ fsplit ! $ lose ! $ fsplit ! $ fsplit ! $ lose ! $ fsplit ! $ lose ! $ move ! (1 ∷ []) $ fsplit ! $ move ! (1 ∷ []) $ fsplit ! $ move ! (1 ∷ []) $ fsplit ! $ move ! (1 ∷ []) $ fsplit ! $ move ! (1 ∷ []) $ fsplit ! $ move ! (1 ∷ []) $ fsplit ! $ move ! (1 ∷ []) $ lose ! $ move ! (4 ∷ 11 ∷ 3 ∷ 10 ∷ 2 ∷ 9 ∷ 0 ∷ 7 ∷ 5 ∷ 12 ∷ 1 ∷ 8 ∷ 6 ∷ 13 ∷ []) $ 
+        move ! (57 ∷ []) $ fsplit ! $ lose ! $ fsplit ! $ fsplit ! $ lose ! $ fsplit ! $ lose ! $ move ! (1 ∷ []) $ fsplit ! $ move ! (1 ∷ []) $ fsplit ! $ move ! (1 ∷ []) $ fsplit ! $ move ! (1 ∷ []) $ fsplit ! $ move ! (1 ∷ []) $ fsplit ! $ move ! (1 ∷ []) $ fsplit ! $ move ! (1 ∷ []) $ lose ! $ move ! (4 ∷ 11 ∷ 3 ∷ 10 ∷ 2 ∷ 9 ∷ 0 ∷ 7 ∷ 5 ∷ 12 ∷ 1 ∷ 8 ∷ 6 ∷ 13 ∷ []) $
         looped 𝓣 known-one (subst (λ (y : Plan). Is P.the-row y (vP y ∷ [])) e (subst (Is P.the-row r) (LL.tells P.the-type P′.the-laws r _ is) is)) l₀ l₁ l₂ l₃ l₄ l₅ l₆ l₇ l₈ l₉ l₁₀ l₁₁ l₁₂ l₁₃ l₁₄ l₁₅ l₁₆ l₁₇ l₁₈ l₁₉ l₂₀ l₂₁ l₂₂ l₂₃ l₂₄
         (record { s = running t₀ 0 (array .now) (registers .now) (counts .now) (replies .now); is-t = is-t; upto = zero-le; l-array = refl; l-registers = refl; l-counts = refl; l-replies = refl; left = refl }))))))))))))))))))))))))))))))
 
@@ -439,15 +452,28 @@ module _ {M : Type 1} (𝓤 : URA M) (H : Heap 𝓤) (A : Atoms 𝓤) (W : Given
       (are .1 .0 .0 .1) (are .1 .1 .0 .0 .1) (are .1 .1 .1 .0 .0 .1) (are .1 .1 .1 .1 .0 .0 .1) (are .1 .1 .1 .1 .1 .0 .0 .1) (are .1 .1 .1 .1 .1 .1 .0 .0 .1) (are .1 .1 .1 .1 .1 .1 .1 .0 .0 .1) 𝓣 known-plan known-one (are .0)))
 
   goes-on : AllGo 𝓤 H A W 7 (batch.signature .params) (batch.ended .kept) stayed
-  goes-on =
-      (goes-dropped 𝓤 H A W 7 (plain (λ _. T.the-row)) yes (λ κs x f. refl),
-      (goes-dropped 𝓤 H A W 7 (shrSliceOf (0 ∷ []) tt (plain (λ _. E.the-row))) yes (λ κs x f. refl),
-      (goes-dropped 𝓤 H A W 7 (shrSliceOf (1 ∷ []) tt (plain (λ _. u8))) yes (λ κs x f. refl),
-      (goes-slice 𝓤 H A W 7 2 tt (plain (λ _. u8)),
-      (goes-slice 𝓤 H A W 7 3 tt (plain (λ _. u8)),
-      (goes-slice 𝓤 H A W 7 4 tt (plain (λ _. u8)),
-      (goes-dropped 𝓤 H A W 7 (shrSliceOf (5 ∷ []) tt (plain (λ _. u8))) yes (λ κs x f. refl),
-      (goes-slice 𝓤 H A W 7 6 tt (plain (λ _. u8)), tt))))))))
+  goes-on = (
+    goes-dropped 𝓤 H A W 7 (plain (λ _. T.the-row)) yes (λ κs x f. refl),
+    (
+      goes-dropped 𝓤 H A W 7 (shrSliceOf (0 ∷ []) tt (plain (λ _. E.the-row))) yes (λ κs x f. refl),
+      (
+        goes-dropped 𝓤 H A W 7 (shrSliceOf (1 ∷ []) tt (plain (λ _. u8))) yes (λ κs x f. refl),
+        (
+          goes-slice 𝓤 H A W 7 2 tt (plain (λ _. u8)),
+          (
+            goes-slice 𝓤 H A W 7 3 tt (plain (λ _. u8)),
+            (
+              goes-slice 𝓤 H A W 7 4 tt (plain (λ _. u8)),
+              (
+                goes-dropped 𝓤 H A W 7 (shrSliceOf (5 ∷ []) tt (plain (λ _. u8))) yes (λ κs x f. refl),
+                (goes-slice 𝓤 H A W 7 6 tt (plain (λ _. u8)), tt),
+              ),
+            ),
+          ),
+        ),
+      ),
+    ),
+  )
 
 batch-meets : {M : Type 1} (𝓤 : URA M) (H : Heap 𝓤) (A : Atoms 𝓤) → Given 𝓤 H A → (at-mem : Memory → SProp 𝓤) (run : Routine → Fun 𝓤) (𝓣 : Tables 𝓤 H) → Triple 𝓤 (𝓣 .C #in-place·batch-plan) (Planned 𝓤 H A at-mem run) → Triple 𝓤 (𝓣 .C #in-place·run-one) (One 𝓤 H A at-mem run)
     → Meets 𝓤 H A batch.signature (WpFn 𝓤 H (𝓣 .C) (𝓣 .Λ) code.function) (batch.spec 𝓤 H A at-mem run)

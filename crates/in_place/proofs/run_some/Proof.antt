@@ -76,16 +76,31 @@ use Rattle.in_place.proofs.run_some.Code as code
 
 -- at exit: the slices were passed on for good; of the rest nothing is had
 abbrev stayed : Stays (some.ended .signature .params) (some.ended .kept)
-stayed =
-    (stay-dropped (plain (λ _. T.the-row)) yes,
-    (stay-dropped (ArrayOf (plain (λ _. E.the-row)) (λ _. tt) 64) yes,
-    (stay-dropped (plain (λ _. usize)) yes,
-    (stay-dropped (shrSliceOf (0 ∷ []) tt (plain (λ _. u8))) yes,
-    (gave-slice (1 ∷ []) tt (plain (λ _. u8)),
-    (gave-slice (2 ∷ []) tt (plain (λ _. u8)),
-    (gave-slice (3 ∷ []) tt (plain (λ _. u8)),
-    (stay-dropped (shrSliceOf (4 ∷ []) tt (plain (λ _. u8))) yes,
-    (gave-slice (5 ∷ []) tt (plain (λ _. u8)), tt)))))))))
+stayed = (
+  stay-dropped (plain (λ _. T.the-row)) yes,
+  (
+    stay-dropped (ArrayOf (plain (λ _. E.the-row)) (λ _. tt) 64) yes,
+    (
+      stay-dropped (plain (λ _. usize)) yes,
+      (
+        stay-dropped (shrSliceOf (0 ∷ []) tt (plain (λ _. u8))) yes,
+        (
+          gave-slice (1 ∷ []) tt (plain (λ _. u8)),
+          (
+            gave-slice (2 ∷ []) tt (plain (λ _. u8)),
+            (
+              gave-slice (3 ∷ []) tt (plain (λ _. u8)),
+              (
+                stay-dropped (shrSliceOf (4 ∷ []) tt (plain (λ _. u8))) yes,
+                (gave-slice (5 ∷ []) tt (plain (λ _. u8)), tt),
+              ),
+            ),
+          ),
+        ),
+      ),
+    ),
+  ),
+)
 
 -- the contracts that the proof cites
 -- The large types as the function's own table spells them, and what may be stored at them. A walk that compared two spellings of such a
@@ -96,17 +111,11 @@ typeOf (local τ h) = τ
 abbrev tyT : Ty
 tyT = spell pieces.table (typeOf (getD pieces.by-name-locals 1 (local tyUnit valueLocal)))
 
-same-T : T′.mir ≡ tyT
-same-T = refl
-
 typed-T : {M : Type 1} (𝓤 : URA M) (H : Heap 𝓤) (A : Atoms 𝓤) (W : Given 𝓤 H A) (x : Target) (v : Val) → Is T.the-row x (v ∷ []) → Holds (hasTy tyT v) × WT v
 typed-T 𝓤 H A W x v is = LL.lawful T.the-type T′.the-laws 𝓤 H A W .typed x (v ∷ []) is .0
 
 abbrev tyN : Ty
 tyN = spell pieces.table (typeOf (getD pieces.by-name-locals 0 (local tyUnit valueLocal)))
-
-same-N : N′.mir ≡ tyN
-same-N = refl
 
 typed-N : {M : Type 1} (𝓤 : URA M) (H : Heap 𝓤) (A : Atoms 𝓤) (W : Given 𝓤 H A) (x : Ran) (v : Val) → Is N.the-row x (v ∷ []) → Holds (hasTy tyN v) × WT v
 typed-N 𝓤 H A W x v is = LL.lawful N.the-type N′.the-laws 𝓤 H A W .typed x (v ∷ []) is .0
@@ -166,7 +175,7 @@ module _ {M : Type 1} (𝓤 : URA M) (H : Heap 𝓤) (A : Atoms 𝓤) (W : Given
   exits l-es r v z-array z-registers z-counts z-replies says-so l-array l-registers l-counts l-replies =
       qed W ((‵ (flft κ-params q-params) ⊛ ‵ (flft κ-array q-array) ⊛ ‵ (flft κ-registers q-registers) ⊛ ‵ (flft κ-counts q-counts) ⊛ ‵ (flft κ-flags q-flags) ⊛ ‵ (flft κ-replies q-replies) ⊛ ‵ ftrue) ∷ ‵ (finally u8 (array .name) z-array) ∷ ‵ (finally u8 (registers .name) z-registers) ∷ ‵ (finally u8 (counts .name) z-counts) ∷ ‵ (finally u8 (replies .name) z-replies) ∷ ‵ (N.the-row .own r (v ∷ [])) ∷ []) ∵
       suffices ! _ (ends-at 𝓤 H A some.ended stayed (some.clauses 𝓤 H A at-mem run) W (((κ-params, (κ-array, (κ-registers, (κ-counts, (κ-flags, (κ-replies, tt)))))), (q-params, (q-array, (q-registers, (q-counts, (q-flags, (q-replies, tt)))))), tt, args, at), tt) v r (tt, (tt, (tt, (tt, (z-array, (z-registers, (z-counts, (tt, (z-replies, tt))))))))) (tt, (tt, (tt, (tt, (l-array, (l-registers, (l-counts, (tt, (l-replies, tt)))))))))) $
-      says ! (says-so ∙ ap (λ (ys : List Event). batchOf t ys (replies .now) (params .now) (held (array .now) (registers .now) (counts .now)) (flags .now)) (taken n 64 es l-es)) $ frame ! $ nothing ! $ move ! (4 ∷ 0 ∷ []) $ fjoin ! $ nothing ! $ fjoin ! $ move ! (3 ∷ 0 ∷ []) $ fjoin ! $ move ! (2 ∷ 0 ∷ []) $ fjoin ! $ move ! (1 ∷ 0 ∷ []) $ fjoin ! $ nothing ! $ fjoin ! $ nothing ! $ fjoin ! $ nothing ! $ fjoin ! $ nothing ! $ fjoin ! $  done !
+      says ! (says-so ∙ ap (λ (ys : List Event). batchOf t ys (replies .now) (params .now) (held (array .now) (registers .now) (counts .now)) (flags .now)) (taken n 64 es l-es)) $ frame ! $ nothing ! $ move ! (4 ∷ 0 ∷ []) $ fjoin ! $ nothing ! $ fjoin ! $ move ! (3 ∷ 0 ∷ []) $ fjoin ! $ move ! (2 ∷ 0 ∷ []) $ fjoin ! $ move ! (1 ∷ 0 ∷ []) $ fjoin ! $ nothing ! $ fjoin ! $ nothing ! $ fjoin ! $ nothing ! $ fjoin ! $ nothing ! $ fjoin ! $ done !
 
   -- what `lesser` asks, and what its triple binds outside
   abbrev to-lesser : Lesser 𝓤 H A at-mem run .Ghost
@@ -221,7 +230,7 @@ module _ {M : Type 1} (𝓤 : URA M) (H : Heap 𝓤) (A : Atoms 𝓤) (W : Given
         assigns ! (addr ! (from ! (fld ! refl (hop ! (look-in ! 24 (sub ! 0 refl (whole !))) (stop !))))) (from ! (stop !)) (init ! 2 refl (tt, tt)) $
         assigns ! (agg ! (and-then ! (load ! (from ! (stop !)) (look ! 2 refl)) (and-then ! (load ! (from ! (fld ! refl (stop !))) (look-in ! 24 (sub ! 1 refl (whole !)))) (no-more !)))) (from ! (stop !)) (init ! 0 refl (tt, (tt, (record { fits = room-replies .0 }, tt)))) $
         -- the first of the array are lent for a lifetime ν of the call
-        move ! (22 ∷ []) $ use1 W (‵ (cellAt fullShare (F .mir) (vF es ∷ []) l₁₀ 0)) (W .laws .at-raw fullShare (tyArray E′.mir 64) l₁₀ 0 (vF es)) $ owned ! F (Is F) (array-makes 𝓤 H A W E.the-row (LL.makes E.the-type E′.the-plain 𝓤 H A) 64) es _ is-f $ move ! (1 ∷ 0 ∷ []) $ 
+        move ! (22 ∷ []) $ use1 W (‵ (cellAt fullShare (F .mir) (vF es ∷ []) l₁₀ 0)) (W .laws .at-raw fullShare (tyArray E′.mir 64) l₁₀ 0 (vF es)) $ owned ! F (Is F) (array-makes 𝓤 H A W E.the-row (LL.makes E.the-type E′.the-plain 𝓤 H A) 64) es _ is-f $ move ! (1 ∷ 0 ∷ []) $
         lend-part ! tt E.the-row tt (named 0) 64 k es (vF es ∷ []) l₁₀ 0 (room-of k few) l-k (λ ν γ.
         move ! (48 ∷ []) $ fsplit ! $ move ! (1 ∷ []) $ fsplit ! $ drop ! $ fsplit ! $ drop ! $ move ! (3 ∷ 49 ∷ 1 ∷ 2 ∷ 0 ∷ []) $ group ! 5 $ use1 W (raw (Batch 𝓤 H A at-mem run .pre (to-batch l₁₀ ν γ))) (goes l₁₀ ν γ) $
         calls-at ! fm (Batch 𝓤 H A at-mem run) known (to-batch l₁₀ ν γ) (and-then ! (load ! (from ! (stop !)) (look ! 42 refl)) (and-then ! (load ! (from ! (stop !)) (look ! 19 refl)) (and-then ! (load ! (from ! (stop !)) (look ! 36 refl)) (and-then ! (load ! (from ! (stop !)) (look ! 15 refl)) (and-then ! (load ! (from ! (stop !)) (look ! 11 refl)) (and-then ! (load ! (from ! (stop !)) (look ! 7 refl)) (and-then ! (load ! (from ! (stop !)) (look ! 28 refl)) (and-then ! (load ! (from ! (stop !)) (look ! 3 refl)) (no-more !))))))))) (λ v.
@@ -246,16 +255,31 @@ module _ {M : Type 1} (𝓤 : URA M) (H : Heap 𝓤) (A : Atoms 𝓤) (W : Given
       (walk 𝓤 H A W at-mem run (κs .0) (κs .1 .0) (κs .1 .1 .0) (κs .1 .1 .1 .0) (κs .1 .1 .1 .1 .0) (κs .1 .1 .1 .1 .1 .0) (qs .0) (qs .1 .0) (qs .1 .1 .0) (qs .1 .1 .1 .0) (qs .1 .1 .1 .1 .0) (qs .1 .1 .1 .1 .1 .0) (a .0) (a .1 .0) (a .1 .1 .0) (a .1 .1 .1 .0) (a .1 .1 .1 .1 .0) (a .1 .1 .1 .1 .1 .0) (a .1 .1 .1 .1 .1 .1 .0) (a .1 .1 .1 .1 .1 .1 .1 .0) (a .1 .1 .1 .1 .1 .1 .1 .1 .0) C Λ fm known-lesser known (are .0) (are .1 .0) (are .1 .1 .0 .1) (are .1 .1 .1 .0 .0 .1) (are .1 .1 .1 .1 .0 .0 .1) (are .1 .1 .1 .1 .1 .0 .0 .1) (are .1 .1 .1 .1 .1 .1 .0 .0 .1) (are .1 .1 .1 .1 .1 .1 .1 .0 .0 .1) (are .1 .1 .1 .1 .1 .1 .1 .1 .0 .0 .1)))
 
   goes-on : AllGo 𝓤 H A W 6 (some.signature .params) (some.ended .kept) stayed
-  goes-on =
-      (goes-dropped 𝓤 H A W 6 (plain (λ _. T.the-row)) yes (λ κs x f. refl),
-      (goes-dropped 𝓤 H A W 6 (ArrayOf (plain (λ _. E.the-row)) (λ _. tt) 64) yes (λ κs x f. refl),
-      (goes-dropped 𝓤 H A W 6 (plain (λ _. usize)) yes (λ κs x f. refl),
-      (goes-dropped 𝓤 H A W 6 (shrSliceOf (0 ∷ []) tt (plain (λ _. u8))) yes (λ κs x f. refl),
-      (goes-gave-slice 𝓤 H A W 6 1 tt (plain (λ _. u8)),
-      (goes-gave-slice 𝓤 H A W 6 2 tt (plain (λ _. u8)),
-      (goes-gave-slice 𝓤 H A W 6 3 tt (plain (λ _. u8)),
-      (goes-dropped 𝓤 H A W 6 (shrSliceOf (4 ∷ []) tt (plain (λ _. u8))) yes (λ κs x f. refl),
-      (goes-gave-slice 𝓤 H A W 6 5 tt (plain (λ _. u8)), tt)))))))))
+  goes-on = (
+    goes-dropped 𝓤 H A W 6 (plain (λ _. T.the-row)) yes (λ κs x f. refl),
+    (
+      goes-dropped 𝓤 H A W 6 (ArrayOf (plain (λ _. E.the-row)) (λ _. tt) 64) yes (λ κs x f. refl),
+      (
+        goes-dropped 𝓤 H A W 6 (plain (λ _. usize)) yes (λ κs x f. refl),
+        (
+          goes-dropped 𝓤 H A W 6 (shrSliceOf (0 ∷ []) tt (plain (λ _. u8))) yes (λ κs x f. refl),
+          (
+            goes-gave-slice 𝓤 H A W 6 1 tt (plain (λ _. u8)),
+            (
+              goes-gave-slice 𝓤 H A W 6 2 tt (plain (λ _. u8)),
+              (
+                goes-gave-slice 𝓤 H A W 6 3 tt (plain (λ _. u8)),
+                (
+                  goes-dropped 𝓤 H A W 6 (shrSliceOf (4 ∷ []) tt (plain (λ _. u8))) yes (λ κs x f. refl),
+                  (goes-gave-slice 𝓤 H A W 6 5 tt (plain (λ _. u8)), tt),
+                ),
+              ),
+            ),
+          ),
+        ),
+      ),
+    ),
+  )
 
 some-meets : {M : Type 1} (𝓤 : URA M) (H : Heap 𝓤) (A : Atoms 𝓤) → Given 𝓤 H A → (at-mem : Memory → SProp 𝓤) (run : Routine → Fun 𝓤) (𝓣 : Tables 𝓤 H) → Triple 𝓤 (𝓣 .C #in-place·lesser) (Lesser 𝓤 H A at-mem run) → Triple 𝓤 (𝓣 .C #in-place·run-batch) (Batch 𝓤 H A at-mem run)
     → Meets 𝓤 H A some.signature (WpFn 𝓤 H (𝓣 .C) (𝓣 .Λ) code.function) (some.spec 𝓤 H A at-mem run)

@@ -70,14 +70,25 @@ use Rattle.in_place.proofs.step_in_place.Code as code
 
 -- at exit: the record is still borrowed, at its last value; the `&mut` slices were passed on for good; of the rest nothing is had
 abbrev stayed : Stays (in-place.ended .signature .params) (in-place.ended .kept)
-stayed =
-    (stay-ref (0 ∷ []) tt (plain (λ _. T.the-row)),
-    (stay-dropped (plain (λ _. E.the-row)) yes,
-    (stay-dropped (shrSliceOf (1 ∷ []) tt (plain (λ _. u8))) yes,
-    (gave-slice (2 ∷ []) tt (plain (λ _. u8)),
-    (gave-slice (3 ∷ []) tt (plain (λ _. u8)),
-    (gave-slice (4 ∷ []) tt (plain (λ _. u8)),
-    (stay-dropped (shrSliceOf (5 ∷ []) tt (plain (λ _. u8))) yes, tt)))))))
+stayed = (
+  stay-ref (0 ∷ []) tt (plain (λ _. T.the-row)),
+  (
+    stay-dropped (plain (λ _. E.the-row)) yes,
+    (
+      stay-dropped (shrSliceOf (1 ∷ []) tt (plain (λ _. u8))) yes,
+      (
+        gave-slice (2 ∷ []) tt (plain (λ _. u8)),
+        (
+          gave-slice (3 ∷ []) tt (plain (λ _. u8)),
+          (
+            gave-slice (4 ∷ []) tt (plain (λ _. u8)),
+            (stay-dropped (shrSliceOf (5 ∷ []) tt (plain (λ _. u8))) yes, tt),
+          ),
+        ),
+      ),
+    ),
+  ),
+)
 
 -- the contract that the proof cites
 abbrev Step : {M : Type 1} (𝓤 : URA M) (H : Heap 𝓤) (A : Atoms 𝓤) (at-mem : Memory → SProp 𝓤) (run : Routine → Fun 𝓤) → Contract 𝓤
@@ -113,17 +124,11 @@ typed-T 𝓤 H A W x v is = LL.lawful T.the-type T′.the-laws 𝓤 H A W .typed
 abbrev tyS : Ty
 tyS = spell pieces.table (typeOf (getD pieces.by-name-locals 8 (local tyUnit valueLocal)))
 
-same-S : S′.mir ≡ tyS
-same-S = refl
-
 typed-S : {M : Type 1} (𝓤 : URA M) (H : Heap 𝓤) (A : Atoms 𝓤) (W : Given 𝓤 H A) (x : Stepped) (v : Val) → Is S.the-row x (v ∷ []) → Holds (hasTy tyS v) × WT v
 typed-S 𝓤 H A W x v is = LL.lawful S.the-type S′.the-laws 𝓤 H A W .typed x (v ∷ []) is .0
 
 abbrev tyR : Ty
 tyR = spell pieces.table (typeOf (getD pieces.by-name-locals 0 (local tyUnit valueLocal)))
-
-same-R : R′.mir ≡ tyR
-same-R = refl
 
 typed-R : {M : Type 1} (𝓤 : URA M) (H : Heap 𝓤) (A : Atoms 𝓤) (W : Given 𝓤 H A) (x : Reply) (v : Val) → Is R.the-row x (v ∷ []) → Holds (hasTy tyR v) × WT v
 typed-R 𝓤 H A W x v is = EL.lawful R.the-type R′.the-laws 𝓤 H A W tt .typed x (v ∷ []) is .0
@@ -178,7 +183,7 @@ module _ {M : Type 1} (𝓤 : URA M) (H : Heap 𝓤) (A : Atoms 𝓤) (W : Given
       qed W (‵ (fobs (t .name) (T.the-row .coded .code (r .target))) ∷ ‵ (fbor κ (Body (mem T.the-row) b o (t .name))) ∷ ‵ (flft κ q) ∷ (‵ (flft κ-params q-params) ⊛ ‵ (flft κ-array q-array) ⊛ ‵ (flft κ-registers q-registers) ⊛ ‵ (flft κ-counts q-counts) ⊛ ‵ (flft κ-flags q-flags) ⊛ ‵ ftrue) ∷ ‵ (finally u8 (array .name) z-array) ∷ ‵ (finally u8 (registers .name) z-registers) ∷ ‵ (finally u8 (counts .name) z-counts) ∷ []) ∵
       suffices ! _ (ends-at 𝓤 H A in-place.ended stayed (in-place.clauses 𝓤 H A at-mem run) W (((κ, (κ-params, (κ-array, (κ-registers, (κ-counts, (κ-flags, tt)))))), (q, (q-params, (q-array, (q-registers, (q-counts, (q-flags, tt)))))), tt, x, at), tt) _ (r .reply) (r .target, (tt, (tt, (z-array, (z-registers, (z-counts, (tt, tt))))))) (tt, (tt, (tt, (l-array, (l-registers, (l-counts, (tt, tt)))))))) $
       says ! says-so $ move ! (2 ∷ 3 ∷ []) $ join ! $ frame ! $
-      feqI ! (List Val) (vptr b o ∷ []) (vptr b o ∷ []) refl $ fjoin3 ! $ nothing ! $ nothing ! $ fjoin ! $ move ! (4 ∷ 0 ∷ []) $ fjoin ! $ move ! (3 ∷ 0 ∷ []) $ fjoin ! $ move ! (2 ∷ 0 ∷ []) $ fjoin ! $ nothing ! $ fjoin ! $ nothing ! $ fjoin ! $ move ! (1 ∷ 0 ∷ []) $ fjoin ! $ 
+      feqI ! (List Val) (vptr b o ∷ []) (vptr b o ∷ []) refl $ fjoin3 ! $ nothing ! $ nothing ! $ fjoin ! $ move ! (4 ∷ 0 ∷ []) $ fjoin ! $ move ! (3 ∷ 0 ∷ []) $ fjoin ! $ move ! (2 ∷ 0 ∷ []) $ fjoin ! $ nothing ! $ fjoin ! $ nothing ! $ fjoin ! $ move ! (1 ∷ 0 ∷ []) $ fjoin ! $
       owned ! R.the-row (Is R.the-row) (EL.makes R.the-type R′.the-plain 𝓤 H A) (r .reply) _ (LL.owed S.the-type S′.the-laws r _ is .0) $ move ! (1 ∷ 0 ∷ []) $ done !
 
   module _ (C : Calls 𝓤 H) (Λ : Loops 𝓤 H) (fm : FmC 𝓤 H (W .laws) C) (known : Triple 𝓤 (C #step·step) (Step 𝓤 H A at-mem run)) where
@@ -190,7 +195,7 @@ module _ {M : Type 1} (𝓤 : URA M) (H : Heap 𝓤) (A : Atoms 𝓤) (W : Given
         alloc1 ! (λ l₀. alloc1 ! (λ l₁. alloc1 ! (λ l₂. alloc1 ! (λ l₃. alloc1 ! (λ l₄. alloc1 ! (λ l₅. alloc1 ! (λ l₆. alloc1 ! (λ l₇. alloc1 ! (λ l₈. alloc1 ! (λ l₉. alloc1 ! (λ l₁₀. alloc1 ! (λ l₁₁. alloc1 ! (λ l₁₂. alloc1 ! (λ l₁₃. alloc1 ! (λ l₁₄. alloc1 ! (λ l₁₅. alloc0 ! $ params1 ! $
         pass1 ! (init ! 28 refl (tt, tt)) $ pass1 ! (init ! 26 refl (LL.lawful E.the-type E′.the-laws 𝓤 H A W .typed e _ is-e .0)) $ pass1 ! (init ! 24 refl (tt, (tt, (record { fits = room-params .0 }, tt)))) $ pass1 ! (init ! 22 refl (tt, (tt, (record { fits = room-array .0 }, tt)))) $ pass1 ! (init ! 20 refl (tt, (tt, (record { fits = room-registers .0 }, tt)))) $ pass1 ! (init ! 18 refl (tt, (tt, (record { fits = room-counts .0 }, tt)))) $ pass1 ! (init ! 16 refl (tt, (tt, (record { fits = room-flags .0 }, tt)))) $ pass0 ! $
         -- the borrow of the record is opened
-        move ! (33 ∷ []) $ fsplit ! $ fsplit3 ! $ drop ! $ move ! (35 ∷ []) $ split ! $ move ! (2 ∷ 3 ∷ 0 ∷ []) $ 
+        move ! (33 ∷ []) $ fsplit ! $ fsplit3 ! $ drop ! $ move ! (35 ∷ []) $ split ! $ move ! (2 ∷ 3 ∷ 0 ∷ []) $
         opens ! tt T.the-row {h = t .now} b o (λ vs. spelt ! T.the-row (Is T.the-row) (shows 𝓤 H A T.the-row) (LL.vals T.the-type T′.the-laws) (LL.tells T.the-type T′.the-laws) fullShare (t .now) vs b o $
         move ! (1 ∷ []) $ peeks ! T.the-row (Is T.the-row) (shows 𝓤 H A T.the-row) (t .now) (vT (t .now) ∷ []) (λ is-t.
         -- [what the record owns; its cell; the open borrow; obs; auth; the other tokens; what the rest owns; the locals, the last one first]
@@ -230,14 +235,25 @@ module _ {M : Type 1} (𝓤 : URA M) (H : Heap 𝓤) (A : Atoms 𝓤) (W : Given
       (walk 𝓤 H A W at-mem run (κs .0) (κs .1 .0) (κs .1 .1 .0) (κs .1 .1 .1 .0) (κs .1 .1 .1 .1 .0) (κs .1 .1 .1 .1 .1 .0) (qs .0) (qs .1 .0) (qs .1 .1 .0) (qs .1 .1 .1 .0) (qs .1 .1 .1 .1 .0) (qs .1 .1 .1 .1 .1 .0) (a .0) (a .1 .0) (a .1 .1 .0) (a .1 .1 .1 .0) (a .1 .1 .1 .1 .0) (a .1 .1 .1 .1 .1 .0) (a .1 .1 .1 .1 .1 .1 .0) C Λ fm known (are .1 .0) (are .1 .1 .0 .0 .1) (are .1 .1 .1 .0 .0 .1) (are .1 .1 .1 .1 .0 .0 .1) (are .1 .1 .1 .1 .1 .0 .0 .1) (are .1 .1 .1 .1 .1 .1 .0 .0 .1)))
 
   goes-on : AllGo 𝓤 H A W 6 (in-place.signature .params) (in-place.ended .kept) stayed
-  goes-on =
-      (goes-ref 𝓤 H A W 6 0 tt (plain (λ _. T.the-row)),
-      (goes-dropped 𝓤 H A W 6 (plain (λ _. E.the-row)) yes (λ κs x f. refl),
-      (goes-dropped 𝓤 H A W 6 (shrSliceOf (1 ∷ []) tt (plain (λ _. u8))) yes (λ κs x f. refl),
-      (goes-gave-slice 𝓤 H A W 6 2 tt (plain (λ _. u8)),
-      (goes-gave-slice 𝓤 H A W 6 3 tt (plain (λ _. u8)),
-      (goes-gave-slice 𝓤 H A W 6 4 tt (plain (λ _. u8)),
-      (goes-dropped 𝓤 H A W 6 (shrSliceOf (5 ∷ []) tt (plain (λ _. u8))) yes (λ κs x f. refl), tt)))))))
+  goes-on = (
+    goes-ref 𝓤 H A W 6 0 tt (plain (λ _. T.the-row)),
+    (
+      goes-dropped 𝓤 H A W 6 (plain (λ _. E.the-row)) yes (λ κs x f. refl),
+      (
+        goes-dropped 𝓤 H A W 6 (shrSliceOf (1 ∷ []) tt (plain (λ _. u8))) yes (λ κs x f. refl),
+        (
+          goes-gave-slice 𝓤 H A W 6 2 tt (plain (λ _. u8)),
+          (
+            goes-gave-slice 𝓤 H A W 6 3 tt (plain (λ _. u8)),
+            (
+              goes-gave-slice 𝓤 H A W 6 4 tt (plain (λ _. u8)),
+              (goes-dropped 𝓤 H A W 6 (shrSliceOf (5 ∷ []) tt (plain (λ _. u8))) yes (λ κs x f. refl), tt),
+            ),
+          ),
+        ),
+      ),
+    ),
+  )
 
 in-place-meets : {M : Type 1} (𝓤 : URA M) (H : Heap 𝓤) (A : Atoms 𝓤) → Given 𝓤 H A → (at-mem : Memory → SProp 𝓤) (run : Routine → Fun 𝓤) (𝓣 : Tables 𝓤 H) → Triple 𝓤 (𝓣 .C #step·step) (Step 𝓤 H A at-mem run)
     → Meets 𝓤 H A in-place.signature (WpFn 𝓤 H (𝓣 .C) (𝓣 .Λ) code.function) (in-place.spec 𝓤 H A at-mem run)

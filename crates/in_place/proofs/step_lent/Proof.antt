@@ -70,14 +70,25 @@ use Rattle.in_place.proofs.step_lent.Code as code
 
 -- at exit: the slices were passed on for good; of the rest nothing is had
 abbrev stayed : Stays (lent.ended .signature .params) (lent.ended .kept)
-stayed =
-    (stay-dropped (plain (λ _. T.the-row)) yes,
-    (stay-dropped (plain (λ _. E.the-row)) yes,
-    (stay-dropped (shrSliceOf (0 ∷ []) tt (plain (λ _. u8))) yes,
-    (gave-slice (1 ∷ []) tt (plain (λ _. u8)),
-    (gave-slice (2 ∷ []) tt (plain (λ _. u8)),
-    (gave-slice (3 ∷ []) tt (plain (λ _. u8)),
-    (stay-dropped (shrSliceOf (4 ∷ []) tt (plain (λ _. u8))) yes, tt)))))))
+stayed = (
+  stay-dropped (plain (λ _. T.the-row)) yes,
+  (
+    stay-dropped (plain (λ _. E.the-row)) yes,
+    (
+      stay-dropped (shrSliceOf (0 ∷ []) tt (plain (λ _. u8))) yes,
+      (
+        gave-slice (1 ∷ []) tt (plain (λ _. u8)),
+        (
+          gave-slice (2 ∷ []) tt (plain (λ _. u8)),
+          (
+            gave-slice (3 ∷ []) tt (plain (λ _. u8)),
+            (stay-dropped (shrSliceOf (4 ∷ []) tt (plain (λ _. u8))) yes, tt),
+          ),
+        ),
+      ),
+    ),
+  ),
+)
 
 -- the contract that the proof cites
 abbrev InPlace : {M : Type 1} (𝓤 : URA M) (H : Heap 𝓤) (A : Atoms 𝓤) (at-mem : Memory → SProp 𝓤) (run : Routine → Fun 𝓤) → Contract 𝓤
@@ -107,26 +118,17 @@ typeOf (local τ h) = τ
 abbrev tyT : Ty
 tyT = spell pieces.table (typeOf (getD pieces.by-name-locals 1 (local tyUnit valueLocal)))
 
-same-T : T′.mir ≡ tyT
-same-T = refl
-
 typed-T : {M : Type 1} (𝓤 : URA M) (H : Heap 𝓤) (A : Atoms 𝓤) (W : Given 𝓤 H A) (x : Target) (v : Val) → Is T.the-row x (v ∷ []) → Holds (hasTy tyT v) × WT v
 typed-T 𝓤 H A W x v is = LL.lawful T.the-type T′.the-laws 𝓤 H A W .typed x (v ∷ []) is .0
 
 abbrev tyS : Ty
 tyS = spell pieces.table (typeOf (getD pieces.by-name-locals 0 (local tyUnit valueLocal)))
 
-same-S : S′.mir ≡ tyS
-same-S = refl
-
 typed-S : {M : Type 1} (𝓤 : URA M) (H : Heap 𝓤) (A : Atoms 𝓤) (W : Given 𝓤 H A) (x : Stepped) (v : Val) → Is S.the-row x (v ∷ []) → Holds (hasTy tyS v) × WT v
 typed-S 𝓤 H A W x v is = LL.lawful S.the-type S′.the-laws 𝓤 H A W .typed x (v ∷ []) is .0
 
 abbrev tyR : Ty
 tyR = spell pieces.table (typeOf (getD pieces.by-name-locals 9 (local tyUnit valueLocal)))
-
-same-R : R′.mir ≡ tyR
-same-R = refl
 
 typed-R : {M : Type 1} (𝓤 : URA M) (H : Heap 𝓤) (A : Atoms 𝓤) (W : Given 𝓤 H A) (x : Reply) (v : Val) → Is R.the-row x (v ∷ []) → Holds (hasTy tyR v) × WT v
 typed-R 𝓤 H A W x v is = EL.lawful R.the-type R′.the-laws 𝓤 H A W tt .typed x (v ∷ []) is .0
@@ -156,7 +158,7 @@ module _ {M : Type 1} (𝓤 : URA M) (H : Heap 𝓤) (A : Atoms 𝓤) (W : Given
   exits r z z-array z-registers z-counts says-so l-array l-registers l-counts is =
       qed W ((‵ (flft κ-params q-params) ⊛ ‵ (flft κ-array q-array) ⊛ ‵ (flft κ-registers q-registers) ⊛ ‵ (flft κ-counts q-counts) ⊛ ‵ (flft κ-flags q-flags) ⊛ ‵ ftrue) ∷ ‵ (finally u8 (array .name) z-array) ∷ ‵ (finally u8 (registers .name) z-registers) ∷ ‵ (finally u8 (counts .name) z-counts) ∷ []) ∵
       suffices ! _ (ends-at 𝓤 H A lent.ended stayed (lent.clauses 𝓤 H A at-mem run) W (((κ-params, (κ-array, (κ-registers, (κ-counts, (κ-flags, tt))))), (q-params, (q-array, (q-registers, (q-counts, (q-flags, tt))))), tt, x, at), tt) _ (answered r z) (tt, (tt, (tt, (z-array, (z-registers, (z-counts, (tt, tt))))))) (tt, (tt, (tt, (l-array, (l-registers, (l-counts, (tt, tt)))))))) $
-      says ! says-so $ frame ! $ nothing ! $ nothing ! $ fjoin ! $ move ! (3 ∷ 0 ∷ []) $ fjoin ! $ move ! (2 ∷ 0 ∷ []) $ fjoin ! $ move ! (1 ∷ 0 ∷ []) $ fjoin ! $ nothing ! $ fjoin ! $ nothing ! $ fjoin ! $ nothing ! $ fjoin ! $ 
+      says ! says-so $ frame ! $ nothing ! $ nothing ! $ fjoin ! $ move ! (3 ∷ 0 ∷ []) $ fjoin ! $ move ! (2 ∷ 0 ∷ []) $ fjoin ! $ move ! (1 ∷ 0 ∷ []) $ fjoin ! $ nothing ! $ fjoin ! $ nothing ! $ fjoin ! $ nothing ! $ fjoin ! $
       owned ! S.the-row (Is S.the-row) (LL.makes S.the-type S′.the-plain 𝓤 H A) (answered r z) _ is $ move ! (1 ∷ 0 ∷ []) $ done !
 
   -- what `step_in_place`'s triple binds outside: the local at block l, lent for ν under γ
@@ -221,14 +223,25 @@ module _ {M : Type 1} (𝓤 : URA M) (H : Heap 𝓤) (A : Atoms 𝓤) (W : Given
       (walk 𝓤 H A W at-mem run (κs .0) (κs .1 .0) (κs .1 .1 .0) (κs .1 .1 .1 .0) (κs .1 .1 .1 .1 .0) (qs .0) (qs .1 .0) (qs .1 .1 .0) (qs .1 .1 .1 .0) (qs .1 .1 .1 .1 .0) (a .0) (a .1 .0) (a .1 .1 .0) (a .1 .1 .1 .0) (a .1 .1 .1 .1 .0) (a .1 .1 .1 .1 .1 .0) (a .1 .1 .1 .1 .1 .1 .0) C Λ fm known (are .0) (are .1 .0) (are .1 .1 .0 .0 .1) (are .1 .1 .1 .0 .0 .1) (are .1 .1 .1 .1 .0 .0 .1) (are .1 .1 .1 .1 .1 .0 .0 .1) (are .1 .1 .1 .1 .1 .1 .0 .0 .1)))
 
   goes-on : AllGo 𝓤 H A W 5 (lent.signature .params) (lent.ended .kept) stayed
-  goes-on =
-      (goes-dropped 𝓤 H A W 5 (plain (λ _. T.the-row)) yes (λ κs x f. refl),
-      (goes-dropped 𝓤 H A W 5 (plain (λ _. E.the-row)) yes (λ κs x f. refl),
-      (goes-dropped 𝓤 H A W 5 (shrSliceOf (0 ∷ []) tt (plain (λ _. u8))) yes (λ κs x f. refl),
-      (goes-gave-slice 𝓤 H A W 5 1 tt (plain (λ _. u8)),
-      (goes-gave-slice 𝓤 H A W 5 2 tt (plain (λ _. u8)),
-      (goes-gave-slice 𝓤 H A W 5 3 tt (plain (λ _. u8)),
-      (goes-dropped 𝓤 H A W 5 (shrSliceOf (4 ∷ []) tt (plain (λ _. u8))) yes (λ κs x f. refl), tt)))))))
+  goes-on = (
+    goes-dropped 𝓤 H A W 5 (plain (λ _. T.the-row)) yes (λ κs x f. refl),
+    (
+      goes-dropped 𝓤 H A W 5 (plain (λ _. E.the-row)) yes (λ κs x f. refl),
+      (
+        goes-dropped 𝓤 H A W 5 (shrSliceOf (0 ∷ []) tt (plain (λ _. u8))) yes (λ κs x f. refl),
+        (
+          goes-gave-slice 𝓤 H A W 5 1 tt (plain (λ _. u8)),
+          (
+            goes-gave-slice 𝓤 H A W 5 2 tt (plain (λ _. u8)),
+            (
+              goes-gave-slice 𝓤 H A W 5 3 tt (plain (λ _. u8)),
+              (goes-dropped 𝓤 H A W 5 (shrSliceOf (4 ∷ []) tt (plain (λ _. u8))) yes (λ κs x f. refl), tt),
+            ),
+          ),
+        ),
+      ),
+    ),
+  )
 
 lent-meets : {M : Type 1} (𝓤 : URA M) (H : Heap 𝓤) (A : Atoms 𝓤) → Given 𝓤 H A → (at-mem : Memory → SProp 𝓤) (run : Routine → Fun 𝓤) (𝓣 : Tables 𝓤 H) → Triple 𝓤 (𝓣 .C #in-place·step-in-place) (InPlace 𝓤 H A at-mem run)
     → Meets 𝓤 H A lent.signature (WpFn 𝓤 H (𝓣 .C) (𝓣 .Λ) code.function) (lent.spec 𝓤 H A at-mem run)

@@ -48,8 +48,7 @@ take-in-requires c κs =
     let a = start .args in
     let there = fill-room (a .t) (a .params .now) (a .array .now) (a .registers .now) (a .counts .now) (a .flags .now) (start .pre .0) (a .fill) (start .pre .1 .0 .1) in
     let most = c .before .before .before in
-    let few = within-both (length (a .records .now) / 2 - a .i) (size .page-size .result - a .fill .at .0) (most .lesser .ensures) (c .before .before .data-run .ensures .0) in
-    (
+    let few = within-both (length (a .records .now) / 2 - a .i) (size .page-size .result - a .fill .at .0) (most .lesser .ensures) (c .before .before .data-run .ensures .0) in (
       rw (size .before .lun-of .ensures, size .page-size .ensures) (there .1),
       (omega (arith, few .1, there .0, size .page-size .ensures), omega (arith, few .0, start .pre .1 .1 .0), start .pre .1 .1 .1),
     )
