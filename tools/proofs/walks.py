@@ -16,6 +16,7 @@ import sys
 
 from context import (Ctx, cross, gives_slice, last_lists, loc, lst, proj, row, slot, tells_slice, tokens, tup,
                      typed_slice)
+from own_types import own_types
 from template import render
 
 SLICES = [('params', 'shr'), ('array', 'mut'), ('registers', 'mut'), ('counts', 'mut'), ('flags', 'shr')]
@@ -218,7 +219,9 @@ def write(path, text):
 
 if __name__ == '__main__':
     proofs, batched = sys.argv[1], SLICES + [('replies', 'mut')]
-    write(proofs + '/step_in_place/Proof.antt', in_place(SLICES))
-    write(proofs + '/step_lent/Proof.antt', lent(SLICES))
-    write(proofs + '/run_batch/Proof.antt', batch(batched))
-    write(proofs + '/run_some/Proof.antt', some(batched, SIZE))
+    m = len(SLICES)
+    write(proofs + '/step_in_place/Proof.antt', own_types(in_place(SLICES), {'T': m + 4, 'S': m + 3, 'R': 0}))
+    write(proofs + '/step_lent/Proof.antt', own_types(lent(SLICES), {'T': 1, 'S': 0, 'R': m + 4}))
+    planned = {'T': 1, 'N': 0, 'P': len(batched) + 3}
+    write(proofs + '/run_batch/Proof.antt', own_types(batch(batched), planned, small='P'))
+    write(proofs + '/run_some/Proof.antt', own_types(some(batched, SIZE), {'T': 1, 'N': 0}))

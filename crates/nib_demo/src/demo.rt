@@ -1,16 +1,6 @@
 // `nib demo`: two stations save a preset at once, on part T1 in memory, with program-clear on and then off.
-use slices::byte_at;
-use slices::fill;
 use libc::STDIN_FILENO;
 use libc::STDOUT_FILENO;
-use nib_print::pen::Paper;
-use nib_print::pen::Pen;
-use nib_print::pen::begin;
-use nib_print::pen::byte;
-use nib_print::pen::end_line;
-use nib_print::pen::flush;
-use nib_print::pen::put;
-use nib_print::pen::text;
 use nib_files::part::Array;
 use nib_files::part::Counts;
 use nib_files::part::Flags;
@@ -20,9 +10,19 @@ use nib_files::part::Registers;
 use nib_files::part::T1_ID;
 use nib_files::part::planned;
 use nib_files::part::power;
+use nib_print::pen::Paper;
+use nib_print::pen::Pen;
+use nib_print::pen::begin;
+use nib_print::pen::byte;
+use nib_print::pen::end_line;
+use nib_print::pen::flush;
+use nib_print::pen::put;
+use nib_print::pen::text;
 use nib_run::running::Stream;
 use nib_run::running::bytes;
 use nib_run::running::set_out;
+use slices::byte_at;
+use slices::fill;
 
 // The records of the eight scenes, one after the other.
 // 0: reset. 1: feature 01h, program-clear on.

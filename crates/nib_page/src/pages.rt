@@ -1,22 +1,6 @@
 // What a parameter page says.
-use slices::byte_at;
-use nib_sizes::Lengths;
-use nib_sizes::Plan;
-use nib_sizes::plan_of;
 use libc::STDOUT_FILENO;
-use page::crc::page_crc;
-use page::fields::address_cycles;
-use page::fields::bit_of;
-use page::fields::blocks_a_lun;
-use page::fields::data_bytes;
-use page::fields::features;
-use page::fields::lun_count;
-use page::fields::maker_id;
-use page::fields::optional_commands;
-use page::fields::pages_a_block;
-use page::fields::programs_a_page;
-use page::fields::spare_bytes;
-use page::fields::stored_crc;
+use nib_files::files::one_more;
 use nib_print::input::printable;
 use nib_print::pen::Paper;
 use nib_print::pen::Pen;
@@ -32,7 +16,23 @@ use nib_print::pen::text;
 use nib_print::pen::wide;
 use nib_print::say::power_sentence;
 use nib_print::say::with_number;
-use nib_files::files::one_more;
+use nib_sizes::Lengths;
+use nib_sizes::Plan;
+use nib_sizes::plan_of;
+use page::crc::page_crc;
+use page::fields::address_cycles;
+use page::fields::bit_of;
+use page::fields::blocks_a_lun;
+use page::fields::data_bytes;
+use page::fields::features;
+use page::fields::lun_count;
+use page::fields::maker_id;
+use page::fields::optional_commands;
+use page::fields::pages_a_block;
+use page::fields::programs_a_page;
+use page::fields::spare_bytes;
+use page::fields::stored_crc;
+use slices::byte_at;
 
 fn label(out: &mut Paper, p: Pen, words: &[u8]) -> Pen {
     let p = text(out, p, words);

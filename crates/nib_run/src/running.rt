@@ -1,5 +1,16 @@
 // A trace as it comes, byte by byte: its replies as they are, or in words.
 use libc::STDOUT_FILENO;
+use nib_files::part::Array;
+use nib_files::part::Counts;
+use nib_files::part::Flags;
+use nib_files::part::Page;
+use nib_files::part::Part;
+use nib_files::part::Registers;
+use nib_files::part::load;
+use nib_files::part::power;
+use nib_files::part::refuse;
+use nib_files::part::run_on;
+use nib_files::part::store;
 use nib_print::input::left;
 use nib_print::pen::Paper;
 use nib_print::pen::Pen;
@@ -14,21 +25,10 @@ use nib_print::pen::text;
 use nib_print::say::event;
 use nib_print::say::power_sentence;
 use nib_print::say::reply;
+use nib_text::reading::up;
 use power::PowerAnswer;
-use nib_files::part::Array;
-use nib_files::part::Counts;
-use nib_files::part::Flags;
-use nib_files::part::Page;
-use nib_files::part::Part;
-use nib_files::part::Registers;
-use nib_files::part::load;
-use nib_files::part::power;
-use nib_files::part::refuse;
-use nib_files::part::run_on;
-use nib_files::part::store;
 use target::Event;
 use target::Target;
-use nib_text::reading::up;
 
 // How far a trace has come.
 pub struct Stream {

@@ -108,8 +108,9 @@ stayed = (
 )
 
 -- the contracts that the proof cites
--- The large types as the function's own table spells them, and what may be stored at them. A walk that compared two spellings of such a
--- type at each step would take more steps than antt allows a proof; here each comparison stands by itself.
+-- The large types as the function's own table spells them, and what may be stored at them. A walk that compared two
+-- spellings of such a type at each step would take more steps than antt allows a proof; here each comparison stands by
+-- itself.
 abbrev typeOf : Local → Ty
 typeOf (local τ h) = τ
 
