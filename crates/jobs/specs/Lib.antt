@@ -1,0 +1,3 @@
+pub mod Cycles
+pub mod Writing
+pub mod Reading
