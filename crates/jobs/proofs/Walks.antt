@@ -26,7 +26,7 @@ use Rattle.jobs.specs.Reading.{Item, address, command, dataIns, dataOuts
 use Rattle.jobs.proofs.Runs.{record-at, later, next, run-short, run-enough, run-within, two-of-kind, two-of-command}
 
 -- through, item by item
-through-address : (is : List Item) (ts : List ℕ) (at : ℕ) → through (address ∷ is) ts at ≡ pick (isKind 1 ts) (through is (drop 2 ts) (at + 1)) (reached.Stops at)
+pub through-address : (is : List Item) (ts : List ℕ) (at : ℕ) → through (address ∷ is) ts at ≡ pick (isKind 1 ts) (through is (drop 2 ts) (at + 1)) (reached.Stops at)
 unfolding through
 through-address is ts at = refl
 
@@ -38,11 +38,11 @@ pub through-none : (ts : List ℕ) (at : ℕ) → through [] ts at ≡ reached.W
 unfolding through
 through-none ts at = refl
 
-through-data : (is : List Item) (ts : List ℕ) (at : ℕ) → through (dataIns ∷ is) ts at ≡ through is (drop (2 * manyOf 2 ts) ts) (at + manyOf 2 ts)
+pub through-data : (is : List Item) (ts : List ℕ) (at : ℕ) → through (dataIns ∷ is) ts at ≡ through is (drop (2 * manyOf 2 ts) ts) (at + manyOf 2 ts)
 unfolding through
 through-data is ts at = refl
 
-through-outs : (is : List Item) (ts : List ℕ) (at : ℕ) → through (dataOuts ∷ is) ts at ≡ through is (drop (2 * manyOf 3 ts) ts) (at + manyOf 3 ts)
+pub through-outs : (is : List Item) (ts : List ℕ) (at : ℕ) → through (dataOuts ∷ is) ts at ≡ through is (drop (2 * manyOf 3 ts) ts) (at + manyOf 3 ts)
 unfolding through
 through-outs is ts at = refl
 
@@ -66,7 +66,7 @@ outs-if true is ts at = through-outs is ts at
 outs-if false is ts at = nowhere is ts at
 
 -- runs of addresses
-first-kind : (most kind : ℕ) (ts : List ℕ) → run (suc most) kind ts ≡ pick (isKind kind ts) (suc (run most kind (drop 2 ts))) 0
+pub first-kind : (most kind : ℕ) (ts : List ℕ) → run (suc most) kind ts ≡ pick (isKind kind ts) (suc (run most kind (drop 2 ts))) 0
 unfolding run
 first-kind most kind [] = refl
 first-kind most kind (k ∷ []) = refl
@@ -148,7 +148,7 @@ opened t at n a o count all out =
     ∙ through-none (drop (2 * (at + n + o)) t) (at + n + o))
 
 -- the walk, item by item
-walk-address : (is : List Item) (ts : List ℕ) (at : ℕ) → walk (address ∷ is) ts at ≡ pick (isKind 1 ts) (walk is (drop 2 ts) (at + 1)) (listed.Misfit at)
+pub walk-address : (is : List Item) (ts : List ℕ) (at : ℕ) → walk (address ∷ is) ts at ≡ pick (isKind 1 ts) (walk is (drop 2 ts) (at + 1)) (listed.Misfit at)
 unfolding walk step
 walk-address is [] at = refl
 walk-address is (k ∷ []) at = refl
@@ -157,7 +157,7 @@ walk-address is (k ∷ (v ∷ ts)) at = by-step (ofKind 1 k v) where
   by-step true = refl
   by-step false = refl
 
-walk-command : (b : ℕ) (is : List Item) (ts : List ℕ) (at : ℕ) → walk (command b ∷ is) ts at ≡ pick (isCommand b ts) (walk is (drop 2 ts) (at + 1)) (listed.Misfit at)
+pub walk-command : (b : ℕ) (is : List Item) (ts : List ℕ) (at : ℕ) → walk (command b ∷ is) ts at ≡ pick (isCommand b ts) (walk is (drop 2 ts) (at + 1)) (listed.Misfit at)
 unfolding walk step
 walk-command b is [] at = refl
 walk-command b is (k ∷ []) at = refl
@@ -167,7 +167,7 @@ walk-command b is (k ∷ (v ∷ ts)) at = by-step (eqb k 0 && eqb v b) where
   by-step false = refl
 
 -- an item that may come any number of times, with the kind of its records
-data Many : Item → ℕ → Type 0 where
+pub data Many : Item → ℕ → Type 0 where
   ins : Many dataIns 2
   outs : Many dataOuts 3
 
@@ -176,7 +176,7 @@ unfolding walk
 many-none ins is at = refl
 many-none outs is at = refl
 
-walk-odd : (is : List Item) (k at : ℕ) → walk is (k ∷ []) at ≡ listed.Misfit at
+pub walk-odd : (is : List Item) (k at : ℕ) → walk is (k ∷ []) at ≡ listed.Misfit at
 unfolding walk
 walk-odd is k at = refl
 
@@ -195,7 +195,7 @@ count-on kind k v ts e =
     first-kind (suc (length ts)) kind (k ∷ (v ∷ ts))
     ∙ rw (e) (ap suc (run-enough (suc (length ts)) (length ts) kind ts (omega arith) (omega arith)))
 
-count-past : (kind k v : ℕ) (ts : List ℕ) → ofKind kind k v ≡ false → manyOf kind (k ∷ (v ∷ ts)) ≡ 0
+pub count-past : (kind k v : ℕ) (ts : List ℕ) → ofKind kind k v ≡ false → manyOf kind (k ∷ (v ∷ ts)) ≡ 0
 count-past kind k v ts e = first-kind (suc (length ts)) kind (k ∷ (v ∷ ts)) ∙ rw (e)
 
 staying : (is : List Item) (ts : List ℕ) (at : ℕ) → walk is ts at ≡ walk is (drop (2 * 0) ts) (at + 0)
@@ -203,7 +203,7 @@ staying is ts at =
     let e : at + 0 ≡ at = omega arith in
     rw (e)
 
-walk-many : {i : Item} {kind : ℕ} → Many i kind → (is : List Item) (ts : List ℕ) (at : ℕ) → walk (i ∷ is) ts at ≡ walk is (drop (2 * manyOf kind ts) ts) (at + manyOf kind ts)
+pub walk-many : {i : Item} {kind : ℕ} → Many i kind → (is : List Item) (ts : List ℕ) (at : ℕ) → walk (i ∷ is) ts at ≡ walk is (drop (2 * manyOf kind ts) ts) (at + manyOf kind ts)
 walk-many {i} {kind} m is [] at =
     let none : manyOf kind [] ≡ 0 = run-short 0 kind [] (omega arith) in
     many-none m is at ∙ rw (none) (staying is [] at)
@@ -284,7 +284,7 @@ walk-first : (k v : ℕ) (ts : List ℕ) (at : ℕ) → walk [] (k ∷ (v ∷ ts
 unfolding walk step
 walk-first k v ts at = refl
 
-walk-end : (at : ℕ) → walk [] [] at ≡ listed.Jobs
+pub walk-end : (at : ℕ) → walk [] [] at ≡ listed.Jobs
 unfolding walk
 walk-end at = refl
 

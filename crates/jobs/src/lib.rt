@@ -1,5 +1,6 @@
 // Whole jobs written as records and read back: a read, a read-out, a program, an erase and a status, over lent slices.
-// `writing` makes a job's records, `reading` groups records into jobs. No call has a `requires`.
+// `writing` makes a job's records, `reading` groups records into jobs, and `numbers` is both for hosts. No call has a `requires`.
+pub mod numbers;
 pub mod reading;
 pub mod writing;
 
