@@ -3,7 +3,7 @@
  * Bus cycles go in; replies, status and array contents come out. docs/MODEL.md of the repository has all of the
  * model's rules: events and replies, the commands, addresses, refusals, and what a driver meets.
  *
- * The four functions below are compiled from proved code: what they answer, and every byte that they leave in the
+ * The functions below that are not inline are compiled from proved code: what they answer, and every byte that they leave in the
  * record and in the buffers, is settled by definitions (crates/host/specs). They allocate nothing, keep nothing
  * between calls, read no clock and call nothing but memcpy, memmove, memset and the like of the C library, so any
  * number of targets may be used at once, each by one thread at a time.
@@ -239,6 +239,75 @@ enum nib_rest_of { NIB_REST_NONE = 0, NIB_REST_REGISTERS = 1, NIB_REST_PARAMETER
 static inline unsigned nib_rest_buffer(uint64_t rest) { return (unsigned)(rest >> 60); }
 static inline size_t nib_rest_start(uint64_t rest) { return (size_t)(rest >> 30 & 0x3FFFFFFF); }
 static inline size_t nib_rest_length(uint64_t rest) { return (size_t)(rest & 0x3FFFFFFF); }
+
+/* ---- Whole jobs ----
+ *
+ * The records of a job written, and records grouped back into jobs, by proved code: nobody has to put cycles together by hand.
+ * Row and column are plain numbers; nib_row() below gives a row. No function here needs a target.
+ *
+ *   NIB_JOB_READ       00h, five addresses, 30h                       14 bytes of records
+ *   NIB_JOB_READ_OUT   06h, five addresses, E0h, count data out       14 + 2 * count
+ *   NIB_JOB_PROGRAM    80h, five addresses, the bytes as data in, 10h 14 + 2 * bytes_length
+ *   NIB_JOB_ERASE      60h, three addresses, D0h                      10
+ *   NIB_JOB_STATUS     78h, three addresses, count data out           8 + 2 * count */
+enum nib_job_kind {
+    NIB_JOB_END = 0,            /* nib_job_read: no record at that place */
+    NIB_JOB_READ = 1,
+    NIB_JOB_READ_OUT = 2,
+    NIB_JOB_PROGRAM = 3,
+    NIB_JOB_ERASE = 4,
+    NIB_JOB_STATUS = 5,
+    NIB_JOB_MISFIT = 6          /* nib_job_read: no whole job stands there */
+};
+
+enum nib_job_answer {
+    NIB_JOB_NO_SUCH = 0,        /* kind is none of the five */
+    NIB_JOB_TOO_WIDE = 1,       /* a row above 24 bits or a column above 16; said before the room is looked at */
+    NIB_JOB_TOO_SMALL = 2       /* room_length is less than the records take */
+};
+
+/* The job's records, at the front of the room. Answers how many bytes they are (8 at least), or one of the three above, and
+ * then nothing is written. Room past the records stays as it is. What a job does not have (the column of an erase, the count of a
+ * read, the bytes of another job than a program) is not looked at. */
+size_t nib_job_write(uint8_t kind, size_t column, size_t row, size_t count, const uint8_t *bytes, size_t bytes_length,
+                     uint8_t *room, size_t room_length);
+
+/* What stands at record number `at` of a list of records, in NIB_JOB_NUMBERS numbers, as nib_job_found has them. Answers the
+ * first of them, nib_job_kind; or 7 where numbers_length is less than that, and then nothing is written. Reading what was written
+ * gives the job back; all data out belongs to the read-out or status before it. An 85h move, a finish event and every other
+ * cycle is a misfit. */
+size_t nib_job_read(const uint8_t *records, size_t records_length, size_t at, size_t *numbers, size_t numbers_length);
+
+enum { NIB_JOB_NUMBERS = 6 };
+
+typedef struct nib_job_found {
+    size_t kind;                /* enum nib_job_kind */
+    size_t column, row;
+    size_t count;               /* data cycles: out for a read-out or a status, in for a program */
+    size_t place;               /* a program's bytes are the values of count records, the first of them record number place */
+    size_t next;                /* the place after the job; of a misfit the first record that does not fit, or the place after the
+                                   last where the list stops inside the job */
+} nib_job_found;
+
+/* The first record of a list that does not fit, or the place after the last where it stops inside a job; NIB_JOB_NO_MISFIT
+ * where the list is whole jobs, none or more. */
+size_t nib_job_misfit(const uint8_t *records, size_t records_length);
+
+#define NIB_JOB_NO_MISFIT SIZE_MAX
+
+static inline nib_job_found nib_job_at(const uint8_t *records, size_t records_length, size_t at)
+{
+    size_t n[NIB_JOB_NUMBERS];
+    nib_job_found f;
+    nib_job_read(records, records_length, at, n, NIB_JOB_NUMBERS);
+    f.kind = n[0];
+    f.column = n[1];
+    f.row = n[2];
+    f.count = n[3];
+    f.place = n[4];
+    f.next = n[5];
+    return f;
+}
 
 /* Reply bytes that a trace of so many record bytes needs. */
 static inline size_t nib_replies_length(size_t records_length) { return records_length + records_length % 2; }

@@ -173,6 +173,8 @@ def prototype(name, parameters, result, record):
             words.append('uint8_t *, size_t')
         elif kind == '& [ u8 ]':
             words.append('const uint8_t *, size_t')
+        elif kind == '& mut [ usize ]':
+            words.append('size_t *, size_t')
         elif kind in C_TYPES:
             words.append(C_TYPES[kind])
         else:
@@ -204,6 +206,7 @@ def main():
     print('/* X(field, place, bytes) */')
     print('#define NIB_LAYOUT(X) \\')
     print(' \\\n'.join('    X(%s, %d, %d)' % place for place in places))
+    print('#define NIB_LAYOUT_FUNCTIONS %d' % len(exported))
     print('/* The functions\' types; after nibtoggle.h the compiler refuses a difference. */')
     for name, (parameters, result) in sorted(exported.items()):
         print(prototype(name, parameters, result, record))

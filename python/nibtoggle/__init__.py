@@ -12,11 +12,13 @@ the cycles and reads the replies. Standard library only.
 """
 from ._library import Library, LibraryNotFound
 from .bench import Bench, Rest
+from .jobs import Job
 from .part import Part, crc, parameter_page
 from .replies import RULES, Refused, Replies, Reply, Status
 
 __all__ = [
     "Bench",
+    "Job",
     "Library",
     "LibraryNotFound",
     "Part",

@@ -46,7 +46,7 @@ def _candidates() -> List[Path]:
 
 
 class Library:
-    """The four functions of a libnibtoggle.so, typed."""
+    """The functions of a libnibtoggle.so, typed."""
 
     _shared: Optional["Library"] = None
 
@@ -66,6 +66,15 @@ class Library:
         self.rest = self._loaded.nib_rest
         self.rest.restype = ctypes.c_uint64
         self.rest.argtypes = [ctypes.POINTER(Target)] + 2 * lent
+        self.job_write = self._loaded.nib_job_write
+        self.job_write.restype = _size
+        self.job_write.argtypes = [_byte, _size, _size, _size, ctypes.c_char_p, _size, ctypes.c_char_p, _size]
+        self.job_read = self._loaded.nib_job_read
+        self.job_read.restype = _size
+        self.job_read.argtypes = [ctypes.c_char_p, _size, _size, ctypes.POINTER(ctypes.c_size_t), _size]
+        self.job_misfit = self._loaded.nib_job_misfit
+        self.job_misfit.restype = _size
+        self.job_misfit.argtypes = [ctypes.c_char_p, _size]
 
     @classmethod
     def found(cls) -> "Library":

@@ -7,6 +7,7 @@ import os
 import tempfile
 from typing import Iterable, NamedTuple, Optional, Tuple, Union
 
+from . import jobs
 from ._library import Library, Target
 from .part import Part, parameter_page
 from .replies import ADDRESS, COMMAND, DATA_IN, DATA_OUT, FINISH, PROTECT, Refused, Replies, Reply, Status
@@ -239,12 +240,11 @@ class Bench:
 
     def program(self, lun: int, block: int, page: int, data: bytes, column: int = 0, *, finish: bool = True) -> Replies:
         """80h, five addresses, data in, 10h; then the LUN's finish, unless it is left working. A failed program is accepted: ask `status`."""
-        return self._job(
-            _command(0x80) + _column(column) + self._row(lun, block, page) + _records(DATA_IN, data) + _command(0x10), lun, finish)
+        return self._job(self._records_of("program", lun, block, page, column, data=bytes(data)), lun, finish)
 
     def load(self, lun: int, block: int, page: int, column: int = 0, *, finish: bool = False) -> Replies:
         """00h, five addresses, 30h: the page goes into the LUN's register, and output will begin at the column once it has finished."""
-        return self._job(_command(0x00) + _column(column) + self._row(lun, block, page) + _command(0x30), lun, finish)
+        return self._job(self._records_of("read", lun, block, page, column), lun, finish)
 
     def read_page(self, lun: int, block: int, page: int, column: int = 0, count: Optional[int] = None) -> bytes:
         """`load`, finish and data out: `count` bytes, or all from the column to the page's end."""
@@ -255,18 +255,17 @@ class Bench:
 
     def read_out(self, lun: int, column: int = 0, count: Optional[int] = None) -> bytes:
         """06h, five addresses, E0h and data out: the LUN's register as it is."""
-        n = self.part.page_size - column if count is None else count
-        records = _command(0x06) + _column(column) + self._row(lun, 0, 0) + _command(0xE0) + bytes((DATA_OUT, 0)) * n
-        return self._run(records).data
+        n = max(self.part.page_size - column, 0) if count is None else count
+        return self._run(self._records_of("read-out", lun, 0, 0, column, n)).data
 
     def erase(self, lun: int, block: int, *, finish: bool = True) -> Replies:
         """60h, three addresses, D0h; then the LUN's finish, unless it is left working. A failed erase is accepted: ask `status`."""
-        return self._job(_command(0x60) + self._row(lun, block, 0) + _command(0xD0), lun, finish)
+        return self._job(self._records_of("erase", lun, block), lun, finish)
 
     def status(self, lun: Optional[int] = None) -> Optional[Status]:
         """The status byte: of the selected LUN by 70h, or of the LUN given by 78h. None where refused and not strict."""
-        ask = _command(0x70) if lun is None else _command(0x78) + self._row(lun, 0, 0)
-        data = self._run(ask + bytes((DATA_OUT, 0))).data
+        ask = _command(0x70) + bytes((DATA_OUT, 0)) if lun is None else self._records_of("status", lun, count=1)
+        data = self._run(ask).data
         return Status(data[0]) if data else None
 
     def read_id(self) -> bytes:
@@ -293,8 +292,9 @@ class Bench:
         """Feature 01h: with program-clear on, 80h clears the addressed LUN's register alone."""
         return self.set_feature(b"\x40\0\0\0" if on else b"\0\0\0\0")
 
-    def _row(self, lun: int, block: int, page: int) -> bytes:
-        return _records(ADDRESS, (self.part.row(lun, block, page) & 0xFFFFFF).to_bytes(3, "little"))
+    def _records_of(self, kind: str, lun: int, block: int = 0, page: int = 0, column: int = 0, count: int = 0, data: bytes = b"") -> bytes:
+        # the cycles of a whole job are the proved writer's
+        return jobs.records(jobs.Job(kind, self.part.row(lun, block, page), column, count, data), self._library)
 
     def _job(self, records: bytes, lun: int, finish: bool) -> Replies:
         # the finish is an event of its own call: after a refused job it would end work that an earlier job began
@@ -339,7 +339,3 @@ def _records(kind: int, values: Iterable[int]) -> bytes:
 
 def _command(value: int) -> bytes:
     return bytes((COMMAND, value))
-
-
-def _column(column: int) -> bytes:
-    return _records(ADDRESS, (column & 0xFFFF).to_bytes(2, "little"))

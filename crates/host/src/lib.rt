@@ -2,6 +2,7 @@
 // it owns, so the host's record is all plain numbers: it is unpacked, the proved model is asked, and the answer is packed.
 // Numbers that no record packs to stand for a target that is not powered, and stay as they are.
 pub mod numbers;
+pub mod whole_jobs;
 
 use numbers::Cycles;
 use numbers::Place;

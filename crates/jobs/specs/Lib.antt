@@ -1,0 +1,4 @@
+pub mod Cycles
+pub mod Writing
+pub mod Reading
+pub mod Numbers

@@ -1,0 +1,4 @@
+pub mod Shapes
+pub mod Back
+pub mod Again
+pub mod First

@@ -1,0 +1,1 @@
+// Theorems only: jobs written and read, both ways, and what 'the first record that doesn't fit' means.
