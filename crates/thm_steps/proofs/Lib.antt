@@ -4,3 +4,5 @@ pub mod Read
 pub mod Program
 pub mod Status
 pub mod Identification
+pub mod Cases
+pub mod Useless
