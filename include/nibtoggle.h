@@ -1,10 +1,12 @@
 /* Nibtoggle: a proved bench model of an ONFI NAND flash target, for C and C++.
  *
- * Bus cycles go in; replies, status and array contents come out. The four functions below are compiled from proved code: what
- * they answer, and every byte that they leave in the record and in the buffers, is settled by definitions that follow the
- * requirements line by line (crates/host/specs of the repository). They allocate nothing, keep nothing between calls, read no
- * clock and call nothing but memcpy, memmove, memset and the like of the C library, so any number of targets may be used at once, each by
- * one thread at a time.
+ * Bus cycles go in; replies, status and array contents come out. docs/MODEL.md of the repository has all of the
+ * model's rules: events and replies, the commands, addresses, refusals, and what a driver meets.
+ *
+ * The four functions below are compiled from proved code: what they answer, and every byte that they leave in the
+ * record and in the buffers, is settled by definitions (crates/host/specs). They allocate nothing, keep nothing
+ * between calls, read no clock and call nothing but memcpy, memmove, memset and the like of the C library, so any
+ * number of targets may be used at once, each by one thread at a time.
  *
  * WHAT THE CALLER LENDS. A target is a record (nib_target) and five buffers, all the caller's own:
  *
@@ -14,16 +16,18 @@
  *   counts      LUNs * blocks * pages bytes, how often each page was programmed since its block was erased
  *   flags       LUNs * blocks bytes, 0 a good block, 1 a factory bad one
  *
- * nib_part_of() and nib_lengths_of() below give these numbers from the parameter bytes.
+ * nib_part_of(), nib_array_length() and their like below give these numbers from the parameter bytes.
  *
- * WHAT THE CALLER OWES, and nothing else. Of each pointer and the length after it: that many bytes are there, readable, and
- * writable where the pointer is not const; the record is a whole nib_target, aligned as its type asks. The record and the buffers that
- * a call may write (registers at power-on; array, registers, counts and replies otherwise) overlap nothing else that the same
- * call is lent. A pointer may be NULL where its length is 0; t is never NULL. No other thread writes to any of it during a call. The
- * bytes must last for one call only, and may lie elsewhere at the next one.
+ * WHAT THE CALLER OWES, and nothing else. Of each pointer and the length after it: that many bytes are there,
+ * readable, and writable where the pointer is not const; the record is a whole nib_target, aligned as its type
+ * asks. The record and the buffers that a call may write (registers at power-on; array, registers, counts and
+ * replies otherwise) overlap nothing else that the same call is lent. A pointer may be NULL where its length is 0;
+ * t is never NULL. No other thread writes to any of it during a call. The bytes must last for one call only, and
+ * may lie elsewhere at the next one.
  *
- * What the bytes hold, and how long the buffers are, is NOT owed: any bytes in the record, and any lengths, are answered.
- * A record that no state packs to, or a length that is not what the record's geometry gives, is refusal 13, and changes nothing. */
+ * What the bytes hold, and how long the buffers are, is NOT owed: any bytes in the record, and any lengths, are
+ * answered. A record that no state packs to, or a length that is not what the record's geometry gives, is refusal
+ * 13, and changes nothing. */
 #ifndef NIBTOGGLE_H
 #define NIBTOGGLE_H
 
@@ -125,7 +129,7 @@ enum nib_output {
 
 enum nib_kind {
     NIB_COMMAND = 0,            /* value: the command byte */
-    NIB_ADDRESS = 1,            /* value: the address byte; columns in two cycles, rows in three, least significant first */
+    NIB_ADDRESS = 1,            /* value: the address byte; a column is two, a row three, least significant first */
     NIB_DATA_IN = 2,            /* value: the byte */
     NIB_DATA_OUT = 3,           /* value: 0 */
     NIB_FINISH = 4,             /* the bench lets a LUN finish its work; value: the LUN */
@@ -134,8 +138,8 @@ enum nib_kind {
 
 /* ---- Replies ----
  *
- * One number, first reply byte times 256 plus the second: 0 accepted; 100h plus the byte that a data-out cycle gave; 200h plus
- * the number of the refusal. */
+ * One number, first reply byte times 256 plus the second: 0 accepted; 100h plus the byte that a data-out cycle gave;
+ * 200h plus the number of the refusal. */
 #define NIB_ACCEPTED UINT32_C(0)
 
 static inline int nib_is_byte(uint32_t reply) { return reply >> 8 == 1; }
@@ -149,14 +153,14 @@ enum nib_refusal_number {
     NIB_REFUSED_OUT_OF_PLACE = 3,       /* known cycle that does not fit the place reached */
     NIB_REFUSED_ADDRESS = 4,            /* row, column, feature or identification address not in range */
     NIB_REFUSED_LUN_WORKING = 5,        /* the LUN that is named, or whose register is read, works */
-    NIB_REFUSED_OTHER_WORKING = 6,      /* 90h, ECh, EEh, EFh while any LUN works; 70h while another than the selected one does */
+    NIB_REFUSED_OTHER_WORKING = 6,      /* 90h, ECh, EEh, EFh: any LUN works; 70h: one that is not selected works */
     NIB_REFUSED_PROTECTED = 7,          /* 10h or D0h with the protect line low */
     NIB_REFUSED_PAST_END = 8,           /* data in or out past the end */
     NIB_REFUSED_FEATURE_BYTE = 9,       /* feature byte that is not offered */
     NIB_REFUSED_FINISH = 10,            /* finish of a LUN that does not work or does not exist */
     NIB_REFUSED_PROTECT_EVENT = 11,     /* protect event while a LUN works or a sequence is open */
-    NIB_REFUSED_BAD_RECORD = 12,        /* unknown kind, data out with a value other than 0, protect above 1, odd last byte */
-    NIB_REFUSED_TARGET = 13,            /* not powered, or a length or a number in the record that can't be; nothing changes */
+    NIB_REFUSED_BAD_RECORD = 12,        /* unknown kind, data out with a value not 0, protect above 1, odd last byte */
+    NIB_REFUSED_TARGET = 13,            /* not powered, or a length or a number of the record that can't be */
     NIB_REFUSED_ROOM = 16,              /* a trace's reply room is too short; nothing changes */
     NIB_REFUSED_PAGE_LENGTH = 20,       /* power-on: the parameter bytes are not 256 */
     NIB_REFUSED_SIGNATURE = 21,         /* power-on: they don't start with "ONFI" */
@@ -196,35 +200,39 @@ static inline const char *nib_words(unsigned refusal)
 
 /* ---- The functions ---- */
 
-/* Power-on. Answers 0, or the refusal, 20 to 25 (a plain number here, with no 200h). Whatever *t held before is replaced: by the
- * first record of a powered target where the answer is 0, and by an unpowered one, all numbers 0, where it is not. On
- * success the registers are filled with FFh; no other lent byte ever changes, and none at all on a refusal. device_id is the second byte
- * that 90h with 00h gives (the first stands in the parameter bytes). The array's bytes are not looked at. */
+/* Power-on. Answers 0, or the refusal, 20 to 25 (a plain number here, with no 200h). Whatever *t held before is
+ * replaced: by the first record of a powered target where the answer is 0, and by an unpowered one, all numbers 0,
+ * where it is not. On success the registers are filled with FFh; no other lent byte ever changes, and none at all
+ * on a refusal. device_id is the second byte that 90h with 00h gives (the first stands in the parameter bytes). The
+ * array's bytes are not looked at. */
 uint32_t nib_power_on(nib_target *t, const uint8_t *page, size_t page_length, uint8_t device_id,
                       const uint8_t *array, size_t array_length, uint8_t *registers, size_t registers_length,
                       const uint8_t *counts, size_t counts_length, const uint8_t *flags, size_t flags_length);
 
-/* One event. Answers its reply, as above. A refused bus cycle drops the open sequence and ends the output, and changes nothing else; a
- * refused bench event (finish, protect), 12 and 13 change nothing at all. */
+/* One event. Answers its reply, as above. A refused bus cycle drops the open sequence and ends the output, and
+ * changes nothing else; a refused bench event (finish, protect), 12 and 13 change nothing at all. */
 uint32_t nib_event(nib_target *t, uint8_t kind, uint8_t value, const uint8_t *page, size_t page_length,
                    uint8_t *array, size_t array_length, uint8_t *registers, size_t registers_length,
                    uint8_t *counts, size_t counts_length, const uint8_t *flags, size_t flags_length);
 
-/* A trace: two-byte records, kind and value, one event each, and two reply bytes for each, the first and the second. Refusals do not
- * stop it. An odd last byte is a record with a reply of its own (12, or 13). Answers 0; or 16 where replies_length is less than
- * nib_replies_length(records_length), and then nothing is run and nothing changes. Reply bytes past those needed stay as they are. Record,
- * buffers and replies are what nib_event gives record by record; a trace is the quick way for many. */
-uint32_t nib_trace(nib_target *t, const uint8_t *records, size_t records_length, uint8_t *replies, size_t replies_length,
-                   const uint8_t *page, size_t page_length, uint8_t *array, size_t array_length,
+/* A trace: two-byte records, kind and value, one event each, and two reply bytes for each, the first and the
+ * second. Refusals do not stop it. An odd last byte is a record with a reply of its own (12, or 13). Answers 0; or
+ * 16 where replies_length is less than nib_replies_length(records_length), and then nothing is run and nothing
+ * changes. Reply bytes past those needed stay as they are. Record, buffers and replies are what nib_event gives
+ * record by record; a trace is the quick way for many. */
+uint32_t nib_trace(nib_target *t, const uint8_t *records, size_t records_length,
+                   uint8_t *replies, size_t replies_length, const uint8_t *page, size_t page_length,
+                   uint8_t *array, size_t array_length,
                    uint8_t *registers, size_t registers_length, uint8_t *counts, size_t counts_length,
                    const uint8_t *flags, size_t flags_length);
 
-/* The unread rest of the output, as a part of a lent buffer: the bytes that the next data-out cycles would give, up to the
- * end of the register or of the present copy of the parameter page. One number: which buffer, times 2^60, plus where the part
- * starts in it, times 2^30, plus its length. Buffer 1 is registers, 2 the parameter bytes, 0 none: no such output is open, the
- * register's LUN works, all has been read, or the record, page_length or registers_length is refused by 13; start and
- * length are then 0. Changes nothing. */
-uint64_t nib_rest(const nib_target *t, const uint8_t *page, size_t page_length, const uint8_t *registers, size_t registers_length);
+/* The unread rest of the output, as a part of a lent buffer: the bytes that the next data-out cycles would give, up
+ * to the end of the register or of the present copy of the parameter page. One number: which buffer, times 2^60,
+ * plus where the part starts in it, times 2^30, plus its length. Buffer 1 is registers, 2 the parameter bytes, 0
+ * none: no such output is open, the register's LUN works, all has been read, or the record, page_length or
+ * registers_length is refused by 13; start and length are then 0. Changes nothing. */
+uint64_t nib_rest(const nib_target *t, const uint8_t *page, size_t page_length,
+                  const uint8_t *registers, size_t registers_length);
 
 enum nib_rest_of { NIB_REST_NONE = 0, NIB_REST_REGISTERS = 1, NIB_REST_PARAMETERS = 2 };
 
@@ -279,7 +287,8 @@ static inline unsigned nib_field_bits(size_t n)
     return bits;
 }
 
-/* The row address of a page: page bits, block bits, the rest LUN. Its three cycles are its bytes, least significant first. */
+/* The row address of a page: page bits, block bits, the rest LUN. Its three cycles are its bytes, least significant
+ * first. */
 static inline uint32_t nib_row(nib_part p, size_t lun, size_t block, size_t page)
 {
     unsigned page_bits = nib_field_bits(p.pages), block_bits = nib_field_bits(p.blocks);
@@ -303,21 +312,22 @@ typedef struct nib_lent {
 
 static inline uint32_t nib_lent_power_on(nib_target *t, const nib_lent *b, uint8_t device_id)
 {
-    return nib_power_on(t, b->page, b->page_length, device_id, b->array, b->array_length, b->registers, b->registers_length,
-                        b->counts, b->counts_length, b->flags, b->flags_length);
+    return nib_power_on(t, b->page, b->page_length, device_id, b->array, b->array_length,
+                        b->registers, b->registers_length, b->counts, b->counts_length, b->flags, b->flags_length);
 }
 
 static inline uint32_t nib_lent_event(nib_target *t, const nib_lent *b, uint8_t kind, uint8_t value)
 {
-    return nib_event(t, kind, value, b->page, b->page_length, b->array, b->array_length, b->registers, b->registers_length,
-                     b->counts, b->counts_length, b->flags, b->flags_length);
+    return nib_event(t, kind, value, b->page, b->page_length, b->array, b->array_length,
+                     b->registers, b->registers_length, b->counts, b->counts_length, b->flags, b->flags_length);
 }
 
 static inline uint32_t nib_lent_trace(nib_target *t, const nib_lent *b, const uint8_t *records, size_t records_length,
                                       uint8_t *replies, size_t replies_length)
 {
-    return nib_trace(t, records, records_length, replies, replies_length, b->page, b->page_length, b->array, b->array_length,
-                     b->registers, b->registers_length, b->counts, b->counts_length, b->flags, b->flags_length);
+    return nib_trace(t, records, records_length, replies, replies_length, b->page, b->page_length,
+                     b->array, b->array_length, b->registers, b->registers_length, b->counts, b->counts_length,
+                     b->flags, b->flags_length);
 }
 
 static inline uint64_t nib_lent_rest(const nib_target *t, const nib_lent *b)

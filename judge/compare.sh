@@ -2,18 +2,19 @@
 # Compares the plain C model with the proved one, on the traces that both make.
 #   compare.sh                  writes the C program's lines to ../crates/test_judge/stdout,
 #                               which the gate holds the proved program to
+#   compare.sh --stored         says whether that file is what the C program writes
 #   compare.sh --check [SEED [COUNT]]
-#                               runs both, the proved one as ../target/bin/judged ('rt check judged'
-#                               builds it), and says where their lines first differ: the line, and in
-#                               it the trace, the record and the two replies. Without SEED the stored
-#                               file is compared too
+#                               runs both, the proved one as ../target/bin/test_judge ('rt check
+#                               test_judge' builds it), and says where their lines first differ: the
+#                               line, and in it the trace, the record and the two replies. Without
+#                               SEED the stored file is compared too
 # -x ERROR, before SEED, switches a builder's error of errors.sh on in the C model, to see that
 # it is found. Needs a C compiler.
 set -eu
 cd "$(dirname "$0")"
 out=../target/judge
 stored=../crates/test_judge/stdout
-proved=${JUDGED:-../target/bin/judged}
+proved=${JUDGED:-../target/bin/test_judge}
 ./build.sh build
 
 if [ $# -eq 0 ]; then
@@ -22,7 +23,13 @@ if [ $# -eq 0 ]; then
     echo "$stored: $(wc -l < "$stored") lines"
     exit 0
 fi
-[ "$1" = --check ] || { sed -n '2,12s/^# \{0,1\}//p' compare.sh >&2; exit 2; }
+if [ "$1" = --stored ]; then
+    "$out/generate" > "$out/lines.txt"
+    cmp -s "$out/lines.txt" "$stored" || { echo "DIFFERENT: $stored is not what the C program writes" >&2; exit 1; }
+    echo "$stored: $(wc -l < "$stored") lines, as the C program writes them"
+    exit 0
+fi
+[ "$1" = --check ] || { sed -n '2,13s/^# \{0,1\}//p' compare.sh >&2; exit 2; }
 shift
 plain=$out/generate
 error=
@@ -31,7 +38,7 @@ if [ "${1:-}" = -x ]; then
     error=$2
     shift 2
 fi
-[ -x "$proved" ] || { echo "compare: no $proved; run 'rt check judged' first" >&2; exit 2; }
+[ -x "$proved" ] || { echo "compare: no $proved; run 'rt check test_judge' first" >&2; exit 2; }
 
 # Both files, and the first line in which they differ.
 first_difference() {

@@ -7,19 +7,9 @@ out=../target/judge
 ./build.sh build
 "$out/generate-errors" > "$out/errors-none.txt"
 
-total=0
-caught=0
-while IFS= read -r what; do
-    total=$((total + 1))
-    "$out/generate-errors" -x "$total" > "$out/errors-one.txt" || true
-    changed=$(diff "$out/errors-none.txt" "$out/errors-one.txt" | grep -c '^> [0-9]' || true)
-    if [ "$changed" -gt 0 ]; then
-        caught=$((caught + 1))
-        echo "$total caught, $changed lines changed: $what"
-    else
-        echo "$total MISSED: $what"
-    fi
-done <<'LIST'
+# Each error by its number, which is its place here.
+errors() {
+    cat <<'LIST'
 80h clears every register while program-clear is on
 80h clears one register while program-clear is off
 10h stores the register's byte, no AND
@@ -58,5 +48,26 @@ power-on does not look at flags
 data out of a register whose LUN works
 06h does not select
 LIST
+}
+
+# All of them, as many at a time as there are processors.
+count=$(errors | wc -l)
+seq "$count" | xargs -P "$(nproc 2>/dev/null || echo 1)" -I N \
+    sh -c '"$1"/generate-errors -x N > "$1"/errors-N.txt || true' sh "$out"
+
+total=0
+caught=0
+while IFS= read -r what; do
+    total=$((total + 1))
+    changed=$(diff "$out/errors-none.txt" "$out/errors-$total.txt" | grep -c '^> [0-9]' || true)
+    if [ "$changed" -gt 0 ]; then
+        caught=$((caught + 1))
+        echo "$total caught, $changed lines changed: $what"
+    else
+        echo "$total MISSED: $what"
+    fi
+done <<END
+$(errors)
+END
 echo "$caught of $total errors caught"
 [ "$caught" -eq "$total" ]

@@ -5,7 +5,8 @@
 
 Three sources that `rt` wrote, and they must agree:
 
-- the proved library's interface (host.rlib/lang/src): the names of the record's fields, in order, and the functions' types;
+- the proved library's interface (host.rlib/lang/src): the names of the record's fields, in order, and the functions'
+  types;
 - the proved MIR (host.rlib/toolchain/mir.json), which the proofs are about: how wide each field is;
 - the LLVM module that was compiled: how large the record is, and the place and width of each store that makes one.
 
@@ -16,6 +17,7 @@ import os
 import re
 import sys
 
+BITS = {'i8': 1, 'i16': 2, 'i32': 4, 'i64': 8}
 WIDTHS = {'u8': 1, 'u16': 2, 'u32': 4, 'u64': 8, 'usize': 8}
 C_TYPES = {'u8': 'uint8_t', 'u16': 'uint16_t', 'u32': 'uint32_t', 'u64': 'uint64_t', 'usize': 'size_t'}
 
@@ -76,23 +78,21 @@ def fields_of(text, name):
     return fields
 
 
+def shapes_below(value, name):
+    """Each shape that the record has in a part of the MIR, as text."""
+    if isinstance(value, dict):
+        if str(value.get('name', '')).split('::')[-1] == name and 'Fields' in (value.get('shape') or {}):
+            yield json.dumps(value['shape']['Fields'])
+        value = list(value.values())
+    if isinstance(value, list):
+        for below in value:
+            yield from shapes_below(below, name)
+
+
 def shape_in_mir(rlib, name):
     """The record's fields in the proved MIR, as (bytes, how many or None)."""
     with open(os.path.join(rlib, 'toolchain', 'mir.json'), encoding='utf-8') as file:
-        mir = json.load(file)
-    shapes = set()
-
-    def look(value):
-        if isinstance(value, dict):
-            if str(value.get('name', '')).split('::')[-1] == name and 'Fields' in (value.get('shape') or {}):
-                shapes.add(json.dumps(value['shape']['Fields']))
-            for below in value.values():
-                look(below)
-        elif isinstance(value, list):
-            for below in value:
-                look(below)
-
-    look(mir)
+        shapes = set(shapes_below(json.load(file), name))
     if len(shapes) != 1:
         fail('%d shapes of %s in the MIR' % (len(shapes), name))
     widths = []
@@ -118,11 +118,9 @@ def c_layout(fields):
     return places, -(-at // largest) * largest, largest
 
 
-BITS = {'i8': 1, 'i16': 2, 'i32': 4, 'i64': 8}
-
-
 def check_exports(module, exported):
-    """The exports ask nothing of a pointer: no nonnull, no dereferenceable, no noalias. So NULL with length 0 is a pointer like another."""
+    """The exports ask nothing of a pointer: no nonnull, no dereferenceable, no noalias. So NULL with length 0 is a
+    pointer like another."""
     for name in exported:
         line = re.search(r'^define .*@%s\((.*)\)' % name, module, re.M)
         if not line:
@@ -153,7 +151,7 @@ def stores_of(body, size):
 
 
 def check_module(module, places, size):
-    """Somewhere in the module a record is made, by stores at just these places, of just these widths; it returns how many times."""
+    """A record is made in the module by stores at just these places, of just these widths: how many times."""
     wanted = {(at, width) for _, at, width in places}
     made = 0
     for body in re.findall(r'^define .*?^}', module, re.M | re.S):
@@ -198,7 +196,8 @@ def main():
     check_exports(module, exported)
     made = check_module(module, places, size)
 
-    print('/* Written by tools/host_layout.py from the proved library and its LLVM module (%d places there make a record). */' % made)
+    print('/* Written by tools/host_layout.py from the proved library and its LLVM module '
+          '(%d places there make a record). */' % made)
     print('#define NIB_LAYOUT_SIZE %d' % size)
     print('#define NIB_LAYOUT_ALIGNMENT %d' % alignment)
     print('#define NIB_LAYOUT_FIELDS %d' % len(places))

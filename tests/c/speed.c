@@ -2,7 +2,7 @@
  * and makes a table of what it writes: one line for each measurement, words and nanoseconds.
  *
  *     speed                all of it
- *     speed TRACE COUNT    the proved library alone, on one trace (data, commands, refusals), so many times, for a profiler
+ *     speed TRACE COUNT    the proved library alone, on one trace (data, commands, refusals, jobs), so many times, for a profiler
  */
 #define _POSIX_C_SOURCE 200809L
 #include "part.h"
@@ -142,6 +142,23 @@ static trace data_trace(const pair *p)
                     add(&w, NIB_DATA_OUT, 0);
             }
         }
+    return w;
+}
+
+/* Short jobs on pages of 16 bytes: 80h and 10h with a byte, 00h and 30h, 60h and D0h, each with its finish, and a reset now and then. */
+static trace job_trace(const pair *p)
+{
+    trace w = {NULL, 0, 0};
+    add(&w, 0, 0xFF);
+    for (uint32_t i = 0; i < 20000; i++) {
+        uint32_t l = i % (uint32_t)p->part.luns, row = nib_row(p->part, l, i / 2 % p->part.blocks, i / 4 % p->part.pages);
+        add(&w, 0, 0x80), addresses(&w, 0, 2), addresses(&w, row, 3), add(&w, NIB_DATA_IN, i);
+        add(&w, 0, 0x10), add(&w, NIB_FINISH, l);
+        add(&w, 0, 0x00), addresses(&w, 0, 2), addresses(&w, row, 3), add(&w, 0, 0x30), add(&w, NIB_FINISH, l);
+        add(&w, 0, 0x60), addresses(&w, row, 3), add(&w, 0, 0xD0), add(&w, NIB_FINISH, l);
+        if (i % 16 == 15)
+            add(&w, 0, 0xFF);
+    }
     return w;
 }
 
@@ -355,12 +372,14 @@ int main(int argc, char **argv)
 {
     static const fields heavy = {8192, 448, 8, 4, 2, 4, FEATURES_ALL, OPTIONAL_ALL};
     static const fields single = {8192, 448, 8, 8, 1, 8, FEATURES_ALL & ~2u, OPTIONAL_ALL};
+    static const fields narrow = {16, 0, 4, 8, 2, 4, FEATURES_ALL, OPTIONAL_ALL};
     static const fields wide = {8192, 448, 256, 16, 1, 4, 0x100, OPTIONAL_ALL};
 
     if (argc == 3) {
         pair p;
-        open_pair(&p, argv[1][0] == 'd' ? &heavy : &T1);
-        trace w = argv[1][0] == 'd' ? data_trace(&p) : argv[1][0] == 'c' ? command_trace(&p) : refusal_trace(&p);
+        char kind = argv[1][0];
+        open_pair(&p, kind == 'd' ? &heavy : kind == 'j' ? &narrow : &T1);
+        trace w = kind == 'd' ? data_trace(&p) : kind == 'c' ? command_trace(&p) : kind == 'j' ? job_trace(&p) : refusal_trace(&p);
         uint8_t *out = bytes(w.n, 0);
         for (unsigned long i = strtoul(argv[2], NULL, 10); i > 0; i--)
             must(run_trace(&p, 1, w.to, w.n, out) == 0, "a trace's answer");
@@ -369,6 +388,7 @@ int main(int argc, char **argv)
     time_trace("data", &heavy, data_trace);
     time_trace("commands", &T1, command_trace);
     time_trace("refusals", &T1, refusal_trace);
+    time_trace("jobs", &narrow, job_trace);
     time_pages(&single);
     time_power("T1", &T1);
     time_power("8640", &wide);

@@ -1,4 +1,4 @@
--- A `&mut [T]` that a walk lends for one call and takes back, as two steps of a walk's script, over `Again.antt`. It says nothing of the crate, and can be copied as it stands.
+-- A mutable slice that a walk lends for one call and takes back, as two steps of a walk's script, over `Again.antt`. It says nothing of the crate.
 --     renamed      a reference under another ghost name
 --     lend         what the slice owns and its token, at the head of the context, become the slice lent again for a new lifetime ν under a new name δ, the token of ν, and what takes it back. The count in the machine value is a number n that is known to be the list's length
 --     back         the token of ν, what takes the slice back, and its last list zs become what the slice owns at zs, and its token

@@ -1,12 +1,8 @@
-// nib, the bench at the command line: all of the program, so that it and the programs that try its commands are one call each.
-pub mod demo;
-pub mod pages;
-pub mod running;
-pub mod texts;
-
-use demo::tell;
+// nib, the bench at the command line: all of the program, so that it and the programs that try its commands are one call each. Each
+// command's own work stands in a crate of its own: nib_run, nib_demo, nib_page, nib_translate.
 use nib_args::Asked;
 use nib_args::asked_of;
+use nib_demo::demo::tell;
 use nib_files::part::Array;
 use nib_files::part::Counts;
 use nib_files::part::Flags;
@@ -17,16 +13,16 @@ use nib_files::part::make;
 use nib_files::part::planned;
 use nib_files::part::read_page;
 use nib_files::part::t1;
+use nib_page::pages::show_page;
 use nib_print::pen::Paper;
 use nib_print::pen::Pen;
 use nib_print::pen::begin;
 use nib_print::pen::count;
 use nib_print::pen::flush;
 use nib_print::pen::text;
-use pages::show_page;
-use running::on_folder;
-use texts::from_text;
-use texts::to_text;
+use nib_run::running::on_folder;
+use nib_translate::texts::from_text;
+use nib_translate::texts::to_text;
 ghost use Rattle.io.specs.Counts.{Counts as Counted};
 
 fn usage_files(out: &mut Paper, p: Pen) -> Pen {

@@ -41,8 +41,8 @@ planOf page =
 unfoldable pub answerOn : List ℕ → Lengths → PowerAnswer
 answerOn page l = powerAnswer page (l .array) (l .registers) (replicate (l .counts) 0) (replicate (l .flags) 0)
 
--- power-on agrees: a page that is planned is accepted on a folder of those lengths, and one that is refused is refused so,
--- whatever the buffers are
+-- power-on agrees: a page that is planned is accepted on a folder of those lengths, and one that is refused here is
+-- refused by it with the same number, whatever the buffers are
 abbrev pub Agrees : List ℕ → Plan → Type 0
 Agrees page (Sizes l) = answerOn page l ≡ answer.Accepted
 Agrees page (TooLarge l) = answerOn page l ≡ answer.Accepted

@@ -21,8 +21,7 @@ use target::address::page_of;
 use target::commands::Act;
 use target::commands::second_row;
 use target::picks::pick_byte;
-use target::records::failed;
-use target::records::works;
+use target::records::lun_at;
 use target::sizes::page_size;
 use target::views::Ender;
 use target::views::ending;
@@ -124,8 +123,9 @@ pub fn status(t: Target, l: usize) -> u8
     ensures { λ r. ⌜ r ≡ statusOf t l ⌝ }
 {
     let luns = t.luns;
-    let idle = !works(luns, l);
-    weigh(t.high, 128) + weigh(idle, 96) + weigh(idle & failed(luns, l), 1)
+    let lun = lun_at(luns, l);
+    let ready = !lun.working;
+    weigh(t.high, 128) + weigh(ready, 96) + weigh(ready & lun.fail, 1)
 }
 
 pub fn output_byte(t: Target, params: &[u8], registers: &[u8], o: Output) -> u8

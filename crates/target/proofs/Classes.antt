@@ -5,12 +5,13 @@ use mathlib.Core.Bool.{Bool}
 use mathlib.Core.List.{List, [], _∷_}
 use Prim.Native.Nat.{ℕ, _<_}
 use native.Mathlib.Omega.{arith}
-use lib.Dec.{eqb, eqb→eq}
+use lib.Dec.{eqb}
+use borrow.Author.Tests.{eqb-true}
 use lib.ListN.{length, getD}
 use Rattle.target.specs.Commands.{classOf, rowOf, secondRow}
 use Rattle.target.specs.declared.commands.Class.{Class}
 use Rattle.target.specs.declared.commands.Class.the-variants.{First, Second, Both, Alone, Unknown}
-use Rattle.target.proofs.Table.{at}
+use Rattle.target.proofs.Table.{at-place}
 
 -- the number that stands in the table for a class
 abbrev pub numberOfClass : Class → ℕ
@@ -46,7 +47,7 @@ right v x = eqb x (numberOfClass (classOf v))
 
 pub table-right : (v : ℕ) → v < 256 → getD classes v 0 ≡ numberOfClass (classOf v)
 unfolding classOf rowOf secondRow right
-table-right v h = eqb→eq (getD classes v 0) (numberOfClass (classOf v)) (at right classes tt v h)
+table-right v h = eqb-true (getD classes v 0) (numberOfClass (classOf v)) (at-place right classes v h refl)
 
 -- a class is told by its number
 by-number : (c d : Class) → numberOfClass c ≡ numberOfClass d → c ≡ d

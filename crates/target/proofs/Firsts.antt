@@ -1,15 +1,19 @@
--- The lists of first and of second commands have a row for each; what a test computes over the list holds of every first command.
+-- The lists of first and of second commands have a row for each; what a test computes over the list holds of every first command;
+-- the byte of a first command names it.
 -- Assumes nothing.
-use mathlib.Core.Path.{_≡_, refl, subst}
-use mathlib.Core.Bool.{Bool, true, _&&_}
+use mathlib.Core.Path.{_≡_, refl, sym, ap, subst, _∙_}
+use mathlib.Core.Bool.{Bool, true, false, _&&_, false≢true}
 use mathlib.Core.List.{List, [], _∷_}
 use Prim.Native.Nat.{ℕ, zero, suc, _<_}
 use native.Mathlib.Nat.{le-of-suc-le-suc, not-suc-le-zero}
-use lib.Dec.{lit<}
+use lib.Dec.{lit<, eqb}
+use borrow.Author.Tests.{eqb-true}
 use lib.ListN.{length, getD}
-use Rattle.target.specs.Commands.{firstCommands, placeOf, secondPlace}
+use Rattle.target.specs.Commands.{firstCommands, placeOf, rowOf, byteOf, firstOf, secondPlace}
 use Rattle.target.specs.declared.First.{First}
 use Rattle.target.specs.declared.First.the-variants.{Read, ChangeColumn, ChangeColumnEnhanced, Erase, Status, StatusEnhanced, Program, ReadId, ParameterPage, GetFeatures, SetFeatures}
+use Rattle.target.specs.declared.commands.FirstFound.{FirstFound}
+use Rattle.target.specs.declared.commands.FirstFound.the-variants as first
 use Rattle.target.specs.declared.Second.{Second}
 use Rattle.target.specs.declared.Second.the-variants.{StartRead, StartOutput, StartProgram, StartErase, Move}
 use Rattle.target.proofs.Both.{both}
@@ -60,3 +64,22 @@ at-place p (f ∷ fs) (suc k) h all = at-place p fs k (le-of-suc-le-suc h) (both
 -- a test that holds of each in the list holds of every first command
 pub each-first : (p : First → Bool) → every p firstCommands ≡ true → (f : First) → p f ≡ true
 each-first p all f = subst (λ (x : First). p x ≡ true) (standing f) (at-place p firstCommands (placeOf f) (listed f) all)
+
+-- a command that is found stands at this place
+abbrev foundAt : FirstFound → ℕ → Bool
+foundAt first.Nothing n = false
+foundAt (first.Found f) n = eqb (placeOf f) n
+
+same-place : (f : First) (found : FirstFound) → foundAt found (placeOf f) ≡ true → found ≡ first.Found f
+same-place f first.Nothing h = absurd (false≢true h)
+same-place f (first.Found x) h =
+    let at : getD firstCommands (placeOf x) Read ≡ getD firstCommands (placeOf f) Read = ap (λ (n : ℕ). getD firstCommands n Read) (eqb-true (placeOf x) (placeOf f) h) in
+    ap first.Found (sym (standing x) ∙ at ∙ standing f)
+
+-- the byte of a first command names it
+named-test : (f : First) → foundAt (firstOf (byteOf f)) (placeOf f) ≡ true
+unfolding rowOf firstOf
+named-test f = each-first (λ (x : First). foundAt (firstOf (byteOf x)) (placeOf x)) refl f
+
+pub named : (f : First) → firstOf (byteOf f) ≡ first.Found f
+named f = same-place f (firstOf (byteOf f)) (named-test f)

@@ -1,12 +1,12 @@
 // Every command of nib that takes an input or a file, one after the other, on the files of data/. `nib` itself runs `demo`.
-use libc::STDOUT_FILENO;
 use nib_app::act;
 use nib_args::Asked;
+use test_kit::write::text;
 
 fn title(words: &[u8]) {
-    io::write_all(STDOUT_FILENO, b"== ");
-    io::write_all(STDOUT_FILENO, words);
-    io::write_all(STDOUT_FILENO, b"\n");
+    text(b"== ");
+    text(words);
+    text(b"\n");
 }
 
 // A command over the file `input`.

@@ -1,44 +1,40 @@
-// Runs the table 'state × event → answer' that tools/cases.py writes, and its cases, over the proved model, and compares every
-// answer. The table's form stands in tools/cases.py.
-mod compared;
-mod model;
-mod numbers;
-mod place;
-mod reading;
-mod spoils;
+// Runs the table 'state × event → answer' that tools/expect/cases.py writes, and its cases, over the proved model, and compares every
+// answer. The table's form stands in tools/expect/cases.py.
 
-use compared::labelled;
-use compared::text;
-use model::buffers_compared;
-use model::cell;
-use model::events;
-use model::power;
-use model::traced;
-use numbers::Array;
-use numbers::COUNTS_AT;
-use numbers::Expected;
-use numbers::Few;
-use numbers::Numbers;
-use numbers::Page;
-use numbers::REGISTERS_AT;
-use numbers::ROOM_AT;
-use numbers::Registers;
-use numbers::Tape;
-use numbers::Text;
-use numbers::add;
-use numbers::byte;
-use numbers::expect;
-use numbers::get;
-use numbers::keep;
-use numbers::one_more;
-use numbers::set;
 use power::unpowered;
-use reading::go_on;
-use reading::new_word;
-use reading::take;
 use slices::fill;
-use spoils::spoiled;
 use target::Target;
+use test_kit::files::load;
+use test_kit::numbers::add;
+use test_kit::numbers::byte;
+use test_kit::numbers::get;
+use test_kit::numbers::set;
+use test_kit::write::labelled;
+use test_kit::write::text;
+use test_table_model::model::buffers_compared;
+use test_table_model::model::cell;
+use test_table_model::model::events;
+use test_table_model::model::power;
+use test_table_model::model::traced;
+use test_table_model::spoils::spoiled;
+use test_table_read::numbers::Array;
+use test_table_read::numbers::COUNTS_AT;
+use test_table_read::numbers::Expected;
+use test_table_read::numbers::Few;
+use test_table_read::numbers::Numbers;
+use test_table_read::numbers::Page;
+use test_table_read::numbers::REGISTERS_AT;
+use test_table_read::numbers::ROOM_AT;
+use test_table_read::numbers::Registers;
+use test_table_read::numbers::Tape;
+use test_table_read::numbers::Text;
+use test_table_read::numbers::expect;
+use test_table_read::numbers::keep;
+use test_table_read::numbers::one_more;
+use test_table_read::place;
+use test_table_read::reading::go_on;
+use test_table_read::reading::new_word;
+use test_table_read::reading::take;
 
 // What the word says of the part, of what is expected, and of a trace.
 fn noted(
@@ -179,26 +175,12 @@ fn summary(n: &Numbers) {
     text(b"\n");
 }
 
-// How many bytes the table has; 0 if there is none.
-fn read(text: &mut Text) -> usize {
-    let path = b"table";
-    let fd = os::open_read(path);
-    if fd < 0 {
-        os::fail(path);
-        0
-    } else {
-        let size = io::read_full(fd, text);
-        libc::close(fd);
-        size
-    }
-}
-
 fn main() {
     let mut text = [0u8; 524288];
     let mut n = [0usize; 30];
     n[place::LINE] = 1;
     new_word(&mut n);
-    let size = read(&mut text);
+    let size = load(b"table", &mut text);
     table(&text, size, &mut n);
     summary(&n);
 }

@@ -1,348 +1,74 @@
 // Runs one long trace all three ways, as a byte trace, in batches of events held as records, and one event at a time over a
-// record that is lent, and compares every reply and every buffer.
-mod script;
-
+// record that is lent, and compares every reply and every buffer. Part and trace are files of data/.
 use in_place::run_some;
 use in_place::step_lent;
-use libc::STDOUT_FILENO;
 use power::power_number;
 use power::power_on;
-use script::scripted;
 use target::Event;
 use target::Target;
 use target::reply_first;
 use target::reply_second;
+use test_kit::compare::differing;
+use test_kit::compare::refusals;
+use test_kit::files::load_hex;
+use test_kit::numbers::byte;
+use test_kit::numbers::get;
+use test_kit::numbers::set;
+use test_kit::numbers::wide;
+use test_kit::random::SEED;
+use test_kit::random::drawn;
+use test_kit::write::line;
+use test_kit::write::text;
 use trace::run;
 use trace::run_number;
-ghost use mathlib.Core.Path.{_≡_};
-ghost use Prim.Native.Nat.{_+_, _*_, _<_, _≤_};
-ghost use lib.ListN.{length};
 
-// T1's parameter page: 512+16 bytes, 4 pages, 8 blocks, 2 LUNs, every option.
-const T1: [u8; 256] = [
-    79,
-    78,
-    70,
-    73,
-    0,
-    0,
-    2,
-    1,
-    76,
-    0,
-    0,
-    0,
-    0,
-    0,
-    0,
-    0,
-    0,
-    0,
-    0,
-    0,
-    0,
-    0,
-    0,
-    0,
-    0,
-    0,
-    0,
-    0,
-    0,
-    0,
-    0,
-    0,
-    0,
-    0,
-    0,
-    0,
-    0,
-    0,
-    0,
-    0,
-    0,
-    0,
-    0,
-    0,
-    0,
-    0,
-    0,
-    0,
-    0,
-    0,
-    0,
-    0,
-    0,
-    0,
-    0,
-    0,
-    0,
-    0,
-    0,
-    0,
-    0,
-    0,
-    0,
-    0,
-    44,
-    0,
-    0,
-    0,
-    0,
-    0,
-    0,
-    0,
-    0,
-    0,
-    0,
-    0,
-    0,
-    0,
-    0,
-    0,
-    0,
-    2,
-    0,
-    0,
-    16,
-    0,
-    0,
-    0,
-    0,
-    0,
-    0,
-    0,
-    4,
-    0,
-    0,
-    0,
-    8,
-    0,
-    0,
-    0,
-    2,
-    35,
-    0,
-    0,
-    0,
-    0,
-    0,
-    0,
-    0,
-    0,
-    4,
-    0,
-    0,
-    0,
-    0,
-    0,
-    0,
-    0,
-    0,
-    0,
-    0,
-    0,
-    0,
-    0,
-    0,
-    0,
-    0,
-    0,
-    0,
-    0,
-    0,
-    0,
-    0,
-    0,
-    0,
-    0,
-    0,
-    0,
-    0,
-    0,
-    0,
-    0,
-    0,
-    0,
-    0,
-    0,
-    0,
-    0,
-    0,
-    0,
-    0,
-    0,
-    0,
-    0,
-    0,
-    0,
-    0,
-    0,
-    0,
-    0,
-    0,
-    0,
-    0,
-    0,
-    0,
-    0,
-    0,
-    0,
-    0,
-    0,
-    0,
-    0,
-    0,
-    0,
-    0,
-    0,
-    0,
-    0,
-    0,
-    0,
-    0,
-    0,
-    0,
-    0,
-    0,
-    0,
-    0,
-    0,
-    0,
-    0,
-    0,
-    0,
-    0,
-    0,
-    0,
-    0,
-    0,
-    0,
-    0,
-    0,
-    0,
-    0,
-    0,
-    0,
-    0,
-    0,
-    0,
-    0,
-    0,
-    0,
-    0,
-    0,
-    0,
-    0,
-    0,
-    0,
-    0,
-    0,
-    0,
-    0,
-    0,
-    0,
-    0,
-    0,
-    0,
-    0,
-    0,
-    0,
-    0,
-    0,
-    0,
-    0,
-    0,
-    0,
-    0,
-    0,
-    0,
-    0,
-    0,
-    0,
-    0,
-    0,
-    0,
-    0,
-    0,
-    0,
-    0,
-    0,
-    0,
-    0,
-    0,
-    0,
-    0,
-    0,
-    207,
-    16,
-];
+// A parameter page; the script; the trace, and room for its replies and a little more; the buffers of T1.
+type Page = [u8; 256];
+
+type Script = [u8; 384];
+
+type Records = [u8; 49152];
+
+type Room = [u8; 49160];
+
+type Array = [u8; 33792];
+
+type Registers = [u8; 1056];
+
+type Counts = [u8; 64];
 
 // No bad block.
 const GOOD: [u8; 16] = [0; 16];
 
-fn put(s: &mut [u8], i: usize, v: u8) {
-    if i < s.len() {
-        s[i] = v;
-    }
-}
-
-fn one(b: bool) -> usize
-    ensures { λ r. ⌜ r ≤ 1 ⌝ }
-{
-    if b { 1 } else { 0 }
-}
-
-fn drawn(x: u64) -> u64 {
-    let a = x ^ (x << 13);
-    let b = a ^ (a >> 7);
-    b ^ (b << 17)
-}
-
 // The script's byte, or in one of sixteen places another.
-fn record_byte(i: usize, x: u64) -> u8 {
+fn record_byte(i: usize, x: usize, script: &Script) -> u8 {
     if x % 16 == 0 {
         if i % 2 == 0 {
-            (x / 16 % 6) as u8
+            byte(x / 16 % 6)
         } else {
-            (x / 16 % 256) as u8
+            byte(x / 16)
         }
     } else {
-        scripted(i)
+        script[i % 384]
     }
 }
 
 // The script over and over, with a byte changed here and there.
-fn lay_trace(records: &mut [u8]) {
-    let mut x: u64 = 88172645463325252;
+fn lay_trace(records: &mut [u8], script: &Script) {
+    let mut x: usize = SEED;
     let mut i: usize = 0;
     while i < records.len() {
         x = drawn(x);
-        records[i] = record_byte(i, x);
+        records[i] = record_byte(i, x, script);
         i += 1;
     }
-}
-
-fn byte(s: &[u8], i: usize) -> u8 {
-    if i < s.len() { s[i] } else { 0 }
-}
-
-// How many places differ.
-fn differing(a: &[u8], b: &[u8]) -> usize {
-    let mut n: usize = 0;
-    let mut i: usize = 0;
-    while i < a.len() {
-        n = (n + one(a[i] != byte(b, i))) % 1000000;
-        i += 1;
-    }
-    n
 }
 
 fn event_at(records: &[u8], i: usize) -> Event {
     if i < records.len() / 2 {
         Event {
-            kind: byte(records, 2 * i),
-            value: byte(records, 2 * i + 1),
+            kind: byte(get(records, 2 * i)),
+            value: byte(get(records, 2 * i + 1)),
         }
     } else {
         Event {
@@ -440,8 +166,8 @@ fn single(
     let s = step_lent(t, e, page, array, registers, counts, flags);
     let r = s.reply;
     let at = i % 1000000 * 2;
-    put(room, at, reply_first(r));
-    put(room, at + 1, reply_second(r));
+    set(room, at, wide(reply_first(r)));
+    set(room, at + 1, wide(reply_second(r)));
     s.target
 }
 
@@ -475,167 +201,141 @@ fn by_events(
     last
 }
 
-// The buffers of T1, whole: their lengths are in the types.
-fn first_way(
-    t: Target,
-    records: &[u8; 49152],
-    room: &mut [u8; 49160],
-    array: &mut [u8; 33792],
-    registers: &mut [u8; 1056],
-    counts: &mut [u8; 64],
-) -> u8 {
-    let ran = run(t, records, room, &T1, array, registers, counts, &GOOD);
-    let answer = ran.answer;
-    run_number(answer)
+// A way's replies and buffers against those of the byte trace.
+fn compared(
+    way: &[u8],
+    room: &Room,
+    array: &Array,
+    registers: &Registers,
+    counts: &Counts,
+    other_room: &Room,
+    other_array: &Array,
+    other_registers: &Registers,
+    other_counts: &Counts,
+) {
+    text(way);
+    line(
+        b": reply bytes that differ ",
+        differing(room, other_room, 49160),
+    );
+    text(way);
+    line(
+        b": array bytes that differ ",
+        differing(array, other_array, 33792),
+    );
+    text(way);
+    line(
+        b": register bytes that differ ",
+        differing(registers, other_registers, 1056),
+    );
+    text(way);
+    line(
+        b": counts that differ ",
+        differing(counts, other_counts, 64),
+    );
 }
 
 fn second_way(
     t: Target,
-    records: &[u8; 49152],
-    room: &mut [u8; 49160],
-    array: &mut [u8; 33792],
-    registers: &mut [u8; 1056],
-    counts: &mut [u8; 64],
+    page: &Page,
+    records: &Records,
+    room: &Room,
+    array: &Array,
+    registers: &Registers,
+    counts: &Counts,
 ) {
-    by_batches(t, records, room, &T1, array, registers, counts, &GOOD);
+    let mut m = [0xeeu8; 49160];
+    let mut a = [0xffu8; 33792];
+    let mut r = [0xffu8; 1056];
+    let mut c = [0u8; 64];
+    by_batches(t, records, &mut m, page, &mut a, &mut r, &mut c, &GOOD);
+    compared(b"batches", room, array, registers, counts, &m, &a, &r, &c);
 }
 
 fn third_way(
     t: Target,
-    records: &[u8; 49152],
-    room: &mut [u8; 49160],
-    array: &mut [u8; 33792],
-    registers: &mut [u8; 1056],
-    counts: &mut [u8; 64],
+    page: &Page,
+    records: &Records,
+    room: &Room,
+    array: &Array,
+    registers: &Registers,
+    counts: &Counts,
 ) {
-    by_events(t, records, room, &T1, array, registers, counts, &GOOD);
+    let mut m = [0xeeu8; 49160];
+    let mut a = [0xffu8; 33792];
+    let mut r = [0xffu8; 1056];
+    let mut c = [0u8; 64];
+    by_events(t, records, &mut m, page, &mut a, &mut r, &mut c, &GOOD);
+    compared(
+        b"one at a time",
+        room,
+        array,
+        registers,
+        counts,
+        &m,
+        &a,
+        &r,
+        &c,
+    );
 }
 
-fn differing_rooms(a: &[u8; 49160], b: &[u8; 49160]) -> usize {
-    differing(a, b)
-}
-
-fn differing_arrays(a: &[u8; 33792], b: &[u8; 33792]) -> usize {
-    differing(a, b)
-}
-
-fn differing_registers(a: &[u8; 1056], b: &[u8; 1056]) -> usize {
-    differing(a, b)
-}
-
-fn differing_counts(a: &[u8; 64], b: &[u8; 64]) -> usize {
-    differing(a, b)
-}
-
-fn refusals_in(room: &[u8; 49160]) -> usize {
-    refusals(room)
-}
-
-fn lay_records(records: &mut [u8; 49152]) {
-    lay_trace(records)
-}
-
-fn power(array: &[u8; 33792], registers: &mut [u8; 1056], counts: &[u8; 64]) -> Target {
-    let on = power_on(&T1, 0x68, array, registers, counts, &GOOD);
+fn power(page: &Page, array: &Array, registers: &mut Registers, counts: &Counts) -> Target {
+    let on = power_on(page, 0x68, array, registers, counts, &GOOD);
     let answer = on.answer;
     line(b"power-on answers ", power_number(answer) as usize);
     on.target
 }
 
-fn line(label: &[u8], n: usize) {
-    io::write_all(STDOUT_FILENO, label);
-    io::print_decimal(STDOUT_FILENO, n as u64);
-    io::write_all(STDOUT_FILENO, b"\n");
+fn first_way(
+    t: Target,
+    page: &Page,
+    records: &Records,
+    room: &mut Room,
+    array: &mut Array,
+    registers: &mut Registers,
+    counts: &mut Counts,
+) {
+    let ran = run(t, records, room, page, array, registers, counts, &GOOD);
+    let answer = ran.answer;
+    line(b"the byte trace answers ", run_number(answer) as usize);
 }
 
-// How many replies are refusals.
-fn refusals(room: &[u8]) -> usize {
-    let mut n: usize = 0;
-    let mut i: usize = 0;
-    while i < room.len() {
-        n = (n + one((i % 2 == 0) & (room[i] == 2))) % 1000000;
-        i += 1;
-    }
-    n
+// What the byte trace did.
+fn told(room: &Room, array: &Array) {
+    line(b"records ", 49152 / 2);
+    line(b"refused ", refusals(room));
+    line(
+        b"array bytes changed ",
+        differing(array, &[0xffu8; 33792], 33792),
+    );
 }
 
-fn main() {
-    let mut records = [0u8; 49152];
-    lay_records(&mut records);
+fn all_ways(page: &Page, records: &Records) {
     let mut array = [0xffu8; 33792];
     let mut registers = [0u8; 1056];
     let mut counts = [0u8; 64];
     let mut room = [0xeeu8; 49160];
-    let mut array2 = [0xffu8; 33792];
-    let mut registers2 = [0xffu8; 1056];
-    let mut counts2 = [0u8; 64];
-    let mut room2 = [0xeeu8; 49160];
-    let mut array3 = [0xffu8; 33792];
-    let mut registers3 = [0xffu8; 1056];
-    let mut counts3 = [0u8; 64];
-    let mut room3 = [0xeeu8; 49160];
-    let t = power(&array, &mut registers, &counts);
-    let answer = first_way(
+    let t = power(page, &array, &mut registers, &counts);
+    first_way(
         t,
-        &records,
+        page,
+        records,
         &mut room,
         &mut array,
         &mut registers,
         &mut counts,
     );
-    line(b"the byte trace answers ", answer as usize);
-    second_way(
-        t,
-        &records,
-        &mut room2,
-        &mut array2,
-        &mut registers2,
-        &mut counts2,
-    );
-    third_way(
-        t,
-        &records,
-        &mut room3,
-        &mut array3,
-        &mut registers3,
-        &mut counts3,
-    );
-    line(b"records ", 49152 / 2);
-    line(b"refused ", refusals_in(&room));
-    line(
-        b"array bytes changed ",
-        differing_arrays(&array, &[0xffu8; 33792]),
-    );
-    line(
-        b"batches: reply bytes that differ ",
-        differing_rooms(&room, &room2),
-    );
-    line(
-        b"batches: array bytes that differ ",
-        differing_arrays(&array, &array2),
-    );
-    line(
-        b"batches: register bytes that differ ",
-        differing_registers(&registers, &registers2),
-    );
-    line(
-        b"batches: counts that differ ",
-        differing_counts(&counts, &counts2),
-    );
-    line(
-        b"one at a time: reply bytes that differ ",
-        differing_rooms(&room, &room3),
-    );
-    line(
-        b"one at a time: array bytes that differ ",
-        differing_arrays(&array, &array3),
-    );
-    line(
-        b"one at a time: register bytes that differ ",
-        differing_registers(&registers, &registers3),
-    );
-    line(
-        b"one at a time: counts that differ ",
-        differing_counts(&counts, &counts3),
-    );
+    told(&room, &array);
+    second_way(t, page, records, &room, &array, &registers, &counts);
+    third_way(t, page, records, &room, &array, &registers, &counts);
+}
+
+fn main() {
+    let mut page = [0u8; 256];
+    let mut script = [0u8; 384];
+    let mut records = [0u8; 49152];
+    load_hex(b"t1", &mut page);
+    load_hex(b"script", &mut script);
+    lay_trace(&mut records, &script);
+    all_ways(&page, &records);
 }

@@ -1,5 +1,5 @@
--- Rule 13 never comes up in a run with its own buffers (document 01, "Refusal numbers"): where it lets a record and its buffers
--- pass, it lets pass what any event leaves. Proved in proofs/.
+-- Rule 13 never comes up in a run with its own buffers (document 01, "Refusal numbers"): where it lets a record and its
+-- buffers pass, it lets pass what any event leaves. Proved in proofs/.
 use mathlib.Core.Path.{_≡_}
 use mathlib.Core.Bool.{Bool, true}
 use mathlib.Core.List.{List}
@@ -12,7 +12,8 @@ use Rattle.step.specs.Step.{Buffers, stepOf}
 
 -- rule 13 lets the record pass with buffers of these lengths
 abbrev pub letsPass : Target → List ℕ → Buffers → List ℕ → Bool
-letsPass t params b flags = usable t (length params) (length (b .array)) (length (b .registers)) (length (b .counts)) (length flags)
+letsPass t params b flags =
+    usable t (length params) (length (b .array)) (length (b .registers)) (length (b .counts)) (length flags)
 
 abbrev pub Kept : Type 0
 Kept =

@@ -12,10 +12,12 @@ use Rattle.slices.proofs.Parts.{splices-alike}
 
 pub data Edit (k l : ℕ) (xs ys : List ℕ) : List ℕ → List ℕ → Type 0 where
   as-is : Edit k l xs ys xs ys
-  put : (at n : ℕ) (new : List ℕ) → l * k ≤ at → at + n ≤ l * k + k → length new ≡ n → Edit k l xs ys (splice xs at n new) (splice ys at n new)
+  put : (at n : ℕ) (new : List ℕ) → l * k ≤ at → at + n ≤ l * k + k → length new ≡ n
+      → Edit k l xs ys (splice xs at n new) (splice ys at n new)
 
 -- the bytes are the same if they are equal
-pub put-alike : {k l : ℕ} {xs ys : List ℕ} (at n : ℕ) (new newʳ : List ℕ) → new ≡ newʳ → l * k ≤ at → at + n ≤ l * k + k → length new ≡ n → Edit k l xs ys (splice xs at n new) (splice ys at n newʳ)
+pub put-alike : {k l : ℕ} {xs ys : List ℕ} (at n : ℕ) (new newʳ : List ℕ) → new ≡ newʳ → l * k ≤ at → at + n ≤ l * k + k
+    → length new ≡ n → Edit k l xs ys (splice xs at n new) (splice ys at n newʳ)
 put-alike at n new newʳ e low high same = rw (← e) (put at n new low high same)
 
 pub edit-flip : {k l : ℕ} {xs ys zs ws : List ℕ} → Edit k l xs ys zs ws → Edit k l ys xs ws zs
@@ -25,9 +27,11 @@ edit-flip (put at n new low high same) = put at n new low high same
 module _ (k c l : ℕ) (xs ys : List ℕ) (size : length xs ≡ c * k) (there : l < c) where
   pub edit-apart : {zs ws : List ℕ} (m : ℕ) → (m ≡ l → ⊥) → Edit k l xs ys zs ws → part zs (m * k) k ≡ part xs (m * k) k
   edit-apart m ne as-is = refl
-  edit-apart m ne (put at n new low high same) = part-apart xs at n new (omega (arith, piece k there)) same k l m low high (λ q. ne (sym q))
+  edit-apart m ne (put at n new low high same) =
+      part-apart xs at n new (omega (arith, piece k there)) same k l m low high (λ q. ne (sym q))
 
-  pub edit-alike : {zs ws : List ℕ} → length ys ≡ c * k → part xs (l * k) k ≡ part ys (l * k) k → Edit k l xs ys zs ws → part zs (l * k) k ≡ part ws (l * k) k
+  pub edit-alike : {zs ws : List ℕ} → length ys ≡ c * k → part xs (l * k) k ≡ part ys (l * k) k → Edit k l xs ys zs ws
+      → part zs (l * k) k ≡ part ws (l * k) k
   edit-alike sizeʳ agree as-is = agree
   edit-alike sizeʳ agree (put at n new low high same) =
       splices-alike xs ys (l * k) k agree at n new low high (omega (arith, piece k there)) (omega (arith, piece k there)) same

@@ -1,189 +1,231 @@
--- What an accepted cycle of a job does: its work, its LUN records, its answer and the decoder after it have to do with no LUN but
--- the job's, and are the same for two targets that agree on that LUN.
+-- What an accepted cycle of a job does: its work, its LUN records, its answer and the decoder after it have to do with no
+-- LUN but the job's, and are the same for two targets that agree on that LUN. All of it goes by the views of the open
+-- sequence.
 -- Assumes nothing.
 use mathlib.Core.Path.{_≡_, refl, ap}
 use mathlib.Core.Bool.{Bool, true, false, _&&_, _||_, not, false≢true}
 use mathlib.Core.List.{List, _∷_}
 use Prim.Native.Nat.{ℕ, _*_}
-use lib.ListN.{getD, set}
+use lib.ListN.{set}
 use lib.Dec.{eqb, leb}
-use borrow.Author.Tests.{leb-false}
+use borrow.Author.Tests.{leb-false, not-true}
 use Rattle.slices.proofs.Parts.{getD-alike}
-use Rattle.target.specs.Address.{rowFrom, lunOf}
-use Rattle.target.specs.Place.{ready}
-use Rattle.target.specs.declared.Column.{Column}
+use Rattle.target.specs.Address.{lunOf, rowExists}
+use Rattle.target.specs.Commands.{clearsRegister, waitsFor, cyclesOf, firstOf, secondRow}
+use Rattle.target.specs.Luns.{lunAt, lunBegun}
+use Rattle.target.specs.Place.{isOpen}
+use Rattle.target.specs.Sizes.{pageSize}
+use Rattle.target.specs.Views.{completed, taking, ending}
 use Rattle.target.specs.declared.Row.{Row}
 use Rattle.target.specs.declared.Decoder.{Decoder}
+use Rattle.target.specs.declared.Findings.{Findings}
 use Rattle.target.specs.declared.Geometry.{Geometry}
 use Rattle.target.specs.declared.Lun.{Lun}
-use Rattle.target.specs.declared.First.the-variants.{Status, Program, Parameters}
 use Rattle.target.specs.declared.Sequence.{Sequence}
-use Rattle.target.specs.declared.Sequence.the-variants.{Idle, Columns, Rows, Single, Due, Filling, Moving, Setting}
 use Rattle.target.specs.declared.Output.{Output}
 use Rattle.target.specs.declared.Output.the-variants as output
 use Rattle.target.specs.declared.Reply.the-variants as reply
 use Rattle.target.specs.declared.Work.the-variants as work
-use Rattle.target.proofs.Both.{both, both3}
+use Rattle.target.specs.declared.commands.Act.{Act}
+use Rattle.target.specs.declared.commands.Act.the-variants as act
+use Rattle.target.specs.declared.commands.FirstFound.{FirstFound}
+use Rattle.target.specs.declared.commands.FirstFound.the-variants as first
+use Rattle.target.specs.declared.views.Given.{Given}
+use Rattle.target.specs.declared.views.Given.the-variants as given
+use Rattle.target.specs.declared.views.Taker.{Taker}
+use Rattle.target.specs.declared.views.Taker.the-variants as taker
+use Rattle.target.specs.declared.views.Ender.{Ender}
+use Rattle.target.specs.declared.views.Ender.the-variants as ender
+use Rattle.target.proofs.Both.{both}
 use Rattle.rules.specs.Rules.{fits, outputEnded, pastEnd}
-use Rattle.effects.specs.After.{sequenceAfter, commandOutput, outputAfter, dueWork, dueFail, commandLuns, lunsAfter, clearSet, clearAfter, highAfter, targetAfter, commandWork, isProgram, addressWork, dataWork, workOf}
+use Rattle.effects.specs.Effects.{sequenceAfter, endedOutput, firstOutput, commandOutput, outputAfter, begun, endedLuns, lunsAfter, clearSet, clearAfter, highAfter, targetAfter, acted, endedWork, firstWork, commandWork, addressWork, dataWork, workOf}
 use Rattle.step.specs.Usable.{sequenceSound}
-use Rattle.step.specs.Buffers.{pageFull, blockBad, commandSpoilt, spoiltBy, statusOf, outputByte}
-use Rattle.step.specs.Step.{Buffers, replyOf}
-use Rattle.step.proofs.Sound.{filling-row}
+use Rattle.step.specs.Buffers.{pageFull, blockBad, proceeds, endedFindings, findings, statusOf, outputByte}
+use Rattle.step.specs.Step.{Buffers, replyOf, Reaches, EnderReaches}
+use Rattle.step.proofs.WorkReady.{ender-reaches}
 use Rattle.thm_kept.proofs.Choice.{by-pick}
 use Rattle.thm_stations.specs.Jobs.{Cycle, command, address, dataIn, dataOut, eventOf}
-use Rattle.thm_stations.proofs.Agreement.{Parts, SizesOf}
+use Rattle.thm_stations.proofs.Agreement.{RegisterAgrees, CountsAgree, SizesOf}
 use Rattle.thm_stations.proofs.OwnWork.{Mine, count-alike}
-use Rattle.thm_stations.proofs.Records.{Changed, as-were, become, changed-pick}
+use Rattle.thm_stations.proofs.Records.{Changed, as-were, become-by, changed-pick}
 use Rattle.thm_stations.proofs.Halves.{Fixed, fixedOf, made, refixed}
-use Rattle.thm_stations.proofs.Jobs.{due-mine, put-any}
-use Rattle.thm_stations.proofs.Course.{decoder, Plain, plainly, SequenceOf, RowOf, OutputOf, CycleOf, Course, leftover, Standing, equal, behind-left, Alike}
+use Rattle.thm_stations.proofs.Course.{decoder, isNobody, aimedFound, Plain, plainly, EndedOf, GivenOf, TakerOf, OutputOf, CycleOf, Course, Spared, spared-behind, Standing, equal, Alike}
 
 module _ (g : Geometry) (l : ℕ) where
   -- The work is the LUN's own.
-
-  -- with program-clear on 80h fills no register
-  command-mine : (clear : Bool) → clear ≡ true → (s : Sequence) (v : ℕ) (spoilt : Bool) → SequenceOf g l s → Mine g l (commandWork clear s v spoilt)
-  unfolding Mine SequenceOf
-  command-mine clear on Idle v spoilt w =
-      by-pick (Mine g l) (eqb v 0x80 && not clear) work.ClearAll work.Nothing (λ h. absurd (false≢true (rw on at (both (eqb v 0x80) (not clear) h .1)))) (λ _. tt)
-  command-mine clear on (Columns f got low) v spoilt w = tt
-  command-mine clear on (Rows f c got low mid) v spoilt w = tt
-  command-mine clear on (Single f) v spoilt w = tt
-  command-mine clear on (Due f c r) v spoilt w = due-mine g l f r spoilt (w .1)
-  command-mine clear on (Filling r at) v spoilt w = by-pick (Mine g l) (eqb v 0x10 && not spoilt) (work.Program r) work.Nothing (λ _. w) (λ _. tt)
-  command-mine clear on (Moving r got low) v spoilt w = tt
-  command-mine clear on (Setting got value) v spoilt w = tt
-
-  address-mine : (clear : Bool) (s : Sequence) (v : ℕ) → RowOf g l s v → Mine g l (addressWork g clear s v)
-  unfolding Mine
-  address-mine clear Idle v n = tt
-  address-mine clear (Columns f got low) v n = tt
-  address-mine clear (Rows f c got low mid) v n =
-      by-pick (Mine g l) (isProgram f && eqb got 2 && clear) (work.ClearOne (lunOf g (rowFrom low mid v))) work.Nothing (λ h. n (both3 (isProgram f) (eqb got 2) clear h .1)) (λ _. tt)
-  address-mine clear (Single f) v n = tt
-  address-mine clear (Due f c r) v n = tt
-  address-mine clear (Filling r at) v n = tt
-  address-mine clear (Moving r got low) v n = tt
-  address-mine clear (Setting got value) v n = tt
-
-  data-mine : (s : Sequence) (v : ℕ) → SequenceOf g l s → Mine g l (dataWork g s v)
-  unfolding Mine SequenceOf
-  data-mine Idle v w = tt
-  data-mine (Columns f got low) v w = tt
-  data-mine (Rows f c got low mid) v w = tt
-  data-mine (Single f) v w = tt
-  data-mine (Due f c r) v w = tt
-  data-mine (Filling r at) v w = w
-  data-mine (Moving r got low) v w = tt
-  data-mine (Setting got value) v w = tt
 
   nothing-mine : Mine g l work.Nothing
   unfolding Mine
   nothing-mine = tt
 
-  pub work-mine : (clear : Bool) → clear ≡ true → (s : Sequence) (o : Output) (c : Cycle) (spoilt : Bool) → CycleOf g l c s o → Mine g l (workOf g clear s (eventOf c) spoilt)
+  acted-mine : (a : Act) (r : Row) (found : Findings) → lunOf g r ≡ l → Mine g l (acted a r found)
+  unfolding Mine
+  acted-mine act.Nothing r found q = tt
+  acted-mine act.Load r found q = q
+  acted-mine act.Program r found q =
+      by-pick (Mine g l) (found .proceeds) (work.Program r) work.Nothing (λ _. q) (λ _. tt)
+  acted-mine act.Erase r found q = by-pick (Mine g l) (found .proceeds) (work.Erase r) work.Nothing (λ _. q) (λ _. tt)
+  acted-mine act.Move r found q = tt
+
+  ended-mine : (x : Ender) (found : Findings) → EndedOf g l x → Mine g l (endedWork x found)
+  unfolding EndedOf
+  ended-mine ender.Nothing found w = nothing-mine
+  ended-mine (ender.By k) found w = acted-mine (secondRow (k .second) .act) (k .row) found (w .1)
+
+  -- with program-clear on a first command fills no register
+  first-mine : (clear : Bool) → clear ≡ true → (x : FirstFound) → Mine g l (firstWork clear x)
+  first-mine clear on first.Nothing = nothing-mine
+  first-mine clear on (first.Found f) =
+      by-pick (Mine g l) (clearsRegister f && not clear) work.ClearAll work.Nothing
+      (λ h. absurd (false≢true (rw on at (both (clearsRegister f) (not clear) h .1))))
+      (λ _. nothing-mine)
+
+  command-mine : (clear : Bool) → clear ≡ true → (s : Sequence) (v : ℕ) (found : Findings) → EndedOf g l (ending s v)
+      → Mine g l (commandWork clear s v found)
+  command-mine clear on s v found w =
+      by-pick (Mine g l) (isOpen s) (endedWork (ending s v) found) (firstWork clear (firstOf v))
+      (λ _. ended-mine (ending s v) found w)
+      (λ _. first-mine clear on (firstOf v))
+
+  address-mine : (clear : Bool) (x : Given) → GivenOf g l x → Mine g l (addressWork g clear x)
+  unfolding GivenOf Mine
+  address-mine clear given.Nothing w = tt
+  address-mine clear (given.Column k) w = tt
+  address-mine clear (given.Row k) w =
+      by-pick (Mine g l) (clearsRegister (k .first) && clear) (work.ClearOne (lunOf g (k .row))) work.Nothing (λ _. w)
+      (λ _. tt)
+  address-mine clear (given.Single k) w = tt
+
+  data-mine : (x : Taker) (v : ℕ) → TakerOf g l x → Mine g l (dataWork g x v)
+  unfolding TakerOf Mine
+  data-mine taker.Nothing v w = tt
+  data-mine (taker.Program k) v w = w
+  data-mine (taker.Feature k) v w = tt
+
+  pub work-mine : (clear : Bool) → clear ≡ true → (s : Sequence) (o : Output) (c : Cycle) (found : Findings)
+      → CycleOf g l c s o → Mine g l (workOf g clear s (eventOf c) found)
   unfolding CycleOf workOf
-  work-mine clear on s o (command v) spoilt keeps = rw (plainly v (keeps .0) .no-reset) (command-mine clear on s v spoilt (keeps .1))
-  work-mine clear on s o (address v) spoilt keeps = address-mine clear s v (keeps .1)
-  work-mine clear on s o (dataIn v) spoilt keeps = data-mine s v keeps
-  work-mine clear on s o dataOut spoilt keeps = nothing-mine
+  work-mine clear on s o (command v) found keeps =
+      rw (plainly v (keeps .0) .no-reset) (command-mine clear on s v found (keeps .1))
+  work-mine clear on s o (address v) found keeps = address-mine clear (completed s v) keeps
+  work-mine clear on s o (dataIn v) found keeps = data-mine (taking s) v keeps
+  work-mine clear on s o dataOut found keeps = nothing-mine
 
   -- The LUN records.
 
-  module _ (xs ys : List Lun) where
-    begins-changed : (r : Row) (u : Lun) → lunOf g r ≡ l → Changed l xs ys (set xs (lunOf g r) u) (set ys (lunOf g r) u)
-    begins-changed r u q = rw q (become u)
+  module _ (xs ys : List Lun) (lun : lunAt xs l ≡ lunAt ys l) where
+    begun-changed : (m : ℕ) (fail : Bool) → m ≡ l
+        → Changed l xs ys (set xs m (lunBegun (lunAt xs m) fail)) (set ys m (lunBegun (lunAt ys m) fail))
+    begun-changed m fail q = rw q (become-by (λ (u : Lun). lunBegun u fail) lun)
 
-    command-changed : (s : Sequence) (v : ℕ) (spoilt : Bool) → SequenceOf g l s → Changed l xs ys (commandLuns g xs s v spoilt) (commandLuns g ys s v spoilt)
-    unfolding SequenceOf
-    command-changed Idle v spoilt w = as-were
-    command-changed (Columns f got low) v spoilt w = as-were
-    command-changed (Rows f c got low mid) v spoilt w = as-were
-    command-changed (Single f) v spoilt w = as-were
-    command-changed (Due f c r) v spoilt w = changed-pick (dueWork f) (begins-changed r (record { working = true; fail = dueFail f spoilt }) (w .1))
-    command-changed (Filling r at) v spoilt w = changed-pick (eqb v 0x10) (begins-changed r (record { working = true; fail = spoilt }) w)
-    command-changed (Moving r got low) v spoilt w = as-were
-    command-changed (Setting got value) v spoilt w = as-were
+    ended-changed : (x : Ender) (found : Findings) → EndedOf g l x
+        → Changed l xs ys (endedLuns g xs x found) (endedLuns g ys x found)
+    unfolding EndedOf
+    ended-changed ender.Nothing found w = as-were
+    ended-changed (ender.By k) found w =
+        changed-pick (secondRow (k .second) .starts) (begun-changed (lunOf g (k .row)) (not (found .proceeds)) (w .1))
 
-    pub luns-changed : (s : Sequence) (o : Output) (c : Cycle) (spoilt : Bool) → CycleOf g l c s o → Changed l xs ys (lunsAfter g xs s (eventOf c) spoilt) (lunsAfter g ys s (eventOf c) spoilt)
+    pub luns-changed : (s : Sequence) (o : Output) (c : Cycle) (found : Findings) → CycleOf g l c s o
+        → Changed l xs ys (lunsAfter g xs s (eventOf c) found) (lunsAfter g ys s (eventOf c) found)
     unfolding CycleOf lunsAfter
-    luns-changed s o (command v) spoilt keeps = rw (plainly v (keeps .0) .no-reset) (command-changed s v spoilt (keeps .1))
-    luns-changed s o (address v) spoilt keeps = as-were
-    luns-changed s o (dataIn v) spoilt keeps = as-were
-    luns-changed s o dataOut spoilt keeps = as-were
+    luns-changed s o (command v) found keeps =
+        rw (plainly v (keeps .0) .no-reset) (ended-changed (ending s v) found (keeps .1))
+    luns-changed s o (address v) found keeps = as-were
+    luns-changed s o (dataIn v) found keeps = as-were
+    luns-changed s o dataOut found keeps = as-were
 
-  -- The decoder.
+  -- The decoder, whatever LUN is selected and whatever was put out before.
 
-  -- whatever LUN is selected, and whatever was put out before
-  command-any : (s : Sequence) (v : ℕ) (a b : ℕ) → Plain v → SequenceOf g l s → commandOutput g a s v ≡ commandOutput g b s v
-  unfolding SequenceOf
-  command-any Idle v a b p w = rw (p .no-status)
-  command-any (Columns f got low) v a b p w = refl
-  command-any (Rows f c got low mid) v a b p w = refl
-  command-any (Single f) v a b p w = refl
-  command-any (Due f c r) v a b p w = put-any g f c r a b (w .0)
-  command-any (Filling r at) v a b p w = refl
-  command-any (Moving r got low) v a b p w = refl
-  command-any (Setting got value) v a b p w = refl
+  ended-any : (x : Ender) (a b : ℕ) → EndedOf g l x → endedOutput g a x ≡ endedOutput g b x
+  unfolding EndedOf
+  ended-any ender.Nothing a b w = refl
+  ended-any (ender.By k) a b w = rw (w .0)
 
-  output-any : (s : Sequence) (c : Cycle) {cs : List Cycle} {o p : Output} (a b : ℕ) → Standing (c ∷ cs) o p → CycleOf g l c s o → outputAfter g a (decoder s o) (eventOf c) ≡ outputAfter g b (decoder s p) (eventOf c)
+  first-any : (x : FirstFound) (a b : ℕ) → aimedFound x ≡ true → firstOutput a x ≡ firstOutput b x
+  first-any first.Nothing a b h = refl
+  first-any (first.Found f) a b h =
+      rw (not-true (eqb (cyclesOf f) 0) (both (isNobody (waitsFor f)) (not (eqb (cyclesOf f) 0)) h .1))
+
+  command-any : (s : Sequence) (v a b : ℕ) → Plain v → EndedOf g l (ending s v)
+      → commandOutput g a s v ≡ commandOutput g b s v
+  command-any s v a b p w = rw (ended-any (ending s v) a b w, first-any (firstOf v) a b (p .is-aimed))
+
+  output-any : (s : Sequence) (c : Cycle) {cs : List Cycle} {o p : Output} (a b : ℕ) → Standing (c ∷ cs) o p
+      → CycleOf g l c s o → outputAfter g a (decoder s o) (eventOf c) ≡ outputAfter g b (decoder s p) (eventOf c)
   unfolding CycleOf outputAfter
-  output-any s (command v) a b standing keeps = rw (plainly v (keeps .0) .no-reset) (command-any s v a b (plainly v (keeps .0)) (keeps .1))
+  output-any s (command v) a b standing keeps =
+      rw (plainly v (keeps .0) .no-reset) (command-any s v a b (plainly v (keeps .0)) (keeps .1))
   output-any s (address v) a b equal keeps = refl
   output-any s (dataIn v) a b equal keeps = refl
   output-any s dataOut a b equal keeps = refl
 
-  pub decoder-alike : (s : Sequence) (c : Cycle) (cs : List Cycle) {o p : Output} (a b : ℕ) → Standing (c ∷ cs) o p → Course g l (c ∷ cs) s o → leftover cs ≡ true → fits (decoder s o) (eventOf c) ≡ true
-      → Alike g l cs (decoder (sequenceAfter s (eventOf c)) (outputAfter g a (decoder s o) (eventOf c))) (decoder (sequenceAfter s (eventOf c)) (outputAfter g b (decoder s p) (eventOf c)))
+  pub decoder-alike : (s : Sequence) (c : Cycle) (cs : List Cycle) {o p : Output} (a b : ℕ) → Standing (c ∷ cs) o p
+      → Course g l (c ∷ cs) s o → Spared g l cs → fits (decoder s o) (eventOf c) ≡ true
+      → Alike g l cs (decoder (sequenceAfter s (eventOf c)) (outputAfter g a (decoder s o) (eventOf c)))
+      (decoder (sequenceAfter s (eventOf c)) (outputAfter g b (decoder s p) (eventOf c)))
   unfolding Course
-  decoder-alike s c cs {o} {p} a b standing course left fit =
+  decoder-alike s c cs {o} {p} a b standing course spared fit =
       let same = output-any s c a b standing (course .0) in
       let here = output-any s c {cs = cs} a l equal (course .0) in
-      record { sequence = refl; standing = rw (← same) equal; course = rw here (course .1 fit); rest = behind-left cs left }
+      record {
+        sequence = refl;
+        standing = rw (← same) equal;
+        course = rw here (course .1 fit);
+        rest = spared-behind g l cs spared;
+      }
 
--- What 10h and D0h ask: whether block or page is spoilt.
-module _ (g : Geometry) (l : ℕ) (flags : List ℕ) (B C : Buffers) (sizes : SizesOf g B) (sizesʳ : SizesOf g C) (agree : Parts g l B C) where
-  full-alike : (r : Row) (at : Column) → sequenceSound g (Filling r at) ≡ true → lunOf g r ≡ l → pageFull g r (B .counts) ≡ pageFull g r (C .counts)
+-- What a second command asks of the buffers: whether it proceeds.
+module _ (g : Geometry) (l : ℕ) (flags : List ℕ) (B C : Buffers) (sizes : SizesOf g B) (sizesʳ : SizesOf g C) (agree : CountsAgree g l B C) where
+  full-alike : (r : Row) → rowExists g r ≡ true → lunOf g r ≡ l → pageFull g r (B .counts) ≡ pageFull g r (C .counts)
   unfolding pageFull
-  full-alike r at ok q = ap (leb (g .programs)) (count-alike g B C sizes sizesʳ r (filling-row g r at ok) (rw q agree))
+  full-alike r there q = ap (leb (g .programs)) (count-alike g B C sizes sizesʳ r there (rw q agree))
 
-  command-spoilt : (s : Sequence) → sequenceSound g s ≡ true → SequenceOf g l s → commandSpoilt g s (B .counts) flags ≡ commandSpoilt g s (C .counts) flags
-  unfolding SequenceOf
-  command-spoilt Idle ok w = refl
-  command-spoilt (Columns f got low) ok w = refl
-  command-spoilt (Rows f c got low mid) ok w = refl
-  command-spoilt (Single f) ok w = refl
-  command-spoilt (Due f c r) ok w = refl
-  command-spoilt (Filling r at) ok w = ap (λ (full : Bool). blockBad g r flags || full) (full-alike r at ok w)
-  command-spoilt (Moving r got low) ok w = refl
-  command-spoilt (Setting got value) ok w = refl
+  -- a program looks at its page, which exists
+  proceeds-alike : (a : Act) (r : Row) → Reaches g a r → lunOf g r ≡ l
+      → proceeds g a r (B .counts) flags ≡ proceeds g a r (C .counts) flags
+  unfolding Reaches
+  proceeds-alike act.Nothing r there q = refl
+  proceeds-alike act.Load r there q = refl
+  proceeds-alike act.Program r there q = ap (λ (full : Bool). not (blockBad g r flags || full)) (full-alike r there q)
+  proceeds-alike act.Erase r there q = refl
+  proceeds-alike act.Move r there q = refl
 
-  pub spoilt-alike : (s : Sequence) (o : Output) (c : Cycle) → sequenceSound g s ≡ true → CycleOf g l c s o → spoiltBy g s (eventOf c) (B .counts) flags ≡ spoiltBy g s (eventOf c) (C .counts) flags
-  unfolding CycleOf spoiltBy
-  spoilt-alike s o (command v) ok keeps = command-spoilt s ok (keeps .1)
-  spoilt-alike s o (address v) ok keeps = refl
-  spoilt-alike s o (dataIn v) ok keeps = refl
-  spoilt-alike s o dataOut ok keeps = refl
+  ended-findings : (x : Ender) → EnderReaches g x → EndedOf g l x
+      → endedFindings g x (B .counts) flags ≡ endedFindings g x (C .counts) flags
+  unfolding EndedOf EnderReaches
+  ended-findings ender.Nothing there w = refl
+  ended-findings (ender.By k) there w =
+      ap (λ (b : Bool). record { proceeds = b }) (proceeds-alike (secondRow (k .second) .act) (k .row) there (w .1))
+
+  pub findings-alike : (s : Sequence) (o : Output) (c : Cycle) → sequenceSound g s ≡ true → CycleOf g l c s o
+      → findings g s (eventOf c) (B .counts) flags ≡ findings g s (eventOf c) (C .counts) flags
+  unfolding CycleOf findings
+  findings-alike s o (command v) ok keeps = ended-findings (ending s v) (ender-reaches g s v ok) (keeps .1)
+  findings-alike s o (address v) ok keeps = refl
+  findings-alike s o (dataIn v) ok keeps = refl
+  findings-alike s o dataOut ok keeps = refl
 
 -- The answer.
-module _ (k : Fixed) (l a b : ℕ) (xs ys : List Lun) (lun : getD xs l ready ≡ getD ys l ready) (params : List ℕ) (B C : Buffers) (agree : Parts (k .geometry) l B C) where
+module _ (k : Fixed) (l a b : ℕ) (xs ys : List Lun) (lun : lunAt xs l ≡ lunAt ys l) (params : List ℕ) (B C : Buffers) (agree : RegisterAgrees (k .geometry) l B C) where
   status-alike : (d e : Decoder) → statusOf (made k a xs d) l ≡ statusOf (made k b ys e) l
   unfolding statusOf
   status-alike d e = rw lun
 
-  byte-alike : (s : Sequence) (o : Output) → OutputOf l o → outputEnded (k .geometry) o ≡ false → outputByte (made k a xs (decoder s o)) params (B .registers) o ≡ outputByte (made k b ys (decoder s o)) params (C .registers) o
+  byte-alike : (s : Sequence) (o : Output) → OutputOf l o → outputEnded (k .geometry) o ≡ false
+      → outputByte (made k a xs (decoder s o)) params (B .registers) o ≡ outputByte (made k b ys (decoder s o)) params (C .registers) o
   unfolding OutputOf outputByte
   byte-alike s output.Nothing q ended = refl
   byte-alike s (output.Register m c) q ended =
-      rw q (getD-alike (B .registers) (C .registers) (l * k .geometry .page) (k .geometry .page) (agree .registers) (c .0) (leb-false _ _ ended))
+      let size = pageSize (k .geometry) in
+      rw q (getD-alike (B .registers) (C .registers) (l * size) size agree (c .0) (leb-false _ _ ended))
   byte-alike s (output.Parameters at) q ended = absurd q
   byte-alike s (output.Status m) q ended = rw q (status-alike _ _)
   byte-alike s (output.Ids at) q ended = absurd q
   byte-alike s (output.Signature at) q ended = absurd q
   byte-alike s (output.Feature at) q ended = absurd q
 
-  pub reply-alike : (s : Sequence) (c : Cycle) {cs : List Cycle} {o p : Output} → Standing (c ∷ cs) o p → CycleOf (k .geometry) l c s o → pastEnd (k .geometry) (decoder s o) (eventOf c) ≡ false
+  pub reply-alike : (s : Sequence) (c : Cycle) {cs : List Cycle} {o p : Output} → Standing (c ∷ cs) o p
+      → CycleOf (k .geometry) l c s o → pastEnd (k .geometry) (decoder s o) (eventOf c) ≡ false
       → replyOf (made k a xs (decoder s o)) (eventOf c) params (B .registers) ≡ replyOf (made k b ys (decoder s p)) (eventOf c) params (C .registers)
   unfolding CycleOf replyOf pastEnd
   reply-alike s (command v) standing keeps ended = refl
@@ -196,20 +238,18 @@ pub or-none : (a : Bool) {b : Bool} → b ≡ false → (a || b) ≡ a
 or-none true h = refl
 or-none false h = h
 
-clear-kept : (g : Geometry) (l : ℕ) (clear : Bool) (s : Sequence) → SequenceOf g l s → clearSet clear s ≡ clear
-unfolding SequenceOf
-clear-kept g l clear Idle w = refl
-clear-kept g l clear (Columns f got low) w = refl
-clear-kept g l clear (Rows f c got low mid) w = refl
-clear-kept g l clear (Single f) w = refl
-clear-kept g l clear (Due f c r) w = refl
-clear-kept g l clear (Filling r at) w = refl
-clear-kept g l clear (Moving r got low) w = refl
-clear-kept g l clear (Setting got value) w = absurd w
+clear-kept : (g : Geometry) (l : ℕ) (clear : Bool) (x : Taker) → TakerOf g l x → clearSet clear x ≡ clear
+unfolding TakerOf
+clear-kept g l clear taker.Nothing w = refl
+clear-kept g l clear (taker.Program k) w = refl
+clear-kept g l clear (taker.Feature k) w = absurd w
 
-pub fixed-kept : (k : Fixed) (l a : ℕ) (xs : List Lun) (s : Sequence) (o p : Output) (c : Cycle) (spoilt : Bool) → CycleOf (k .geometry) l c s o → fixedOf (targetAfter (made k a xs (decoder s p)) (eventOf c) spoilt) ≡ k
+pub fixed-kept : (k : Fixed) (l a : ℕ) (xs : List Lun) (s : Sequence) (o p : Output) (c : Cycle) (found : Findings)
+    → CycleOf (k .geometry) l c s o → fixedOf (targetAfter (made k a xs (decoder s p)) (eventOf c) found) ≡ k
 unfolding CycleOf targetAfter highAfter clearAfter
-fixed-kept k l a xs s o p (command v) spoilt keeps = refixed k (rw (plainly v (keeps .0) .no-reset)) (or-none (k .seen) (plainly v (keeps .0) .no-reset))
-fixed-kept k l a xs s o p (address v) spoilt keeps = refixed k refl (or-none (k .seen) refl)
-fixed-kept k l a xs s o p (dataIn v) spoilt keeps = refixed k (clear-kept (k .geometry) l (k .clear) s keeps) (or-none (k .seen) refl)
-fixed-kept k l a xs s o p dataOut spoilt keeps = refixed k refl (or-none (k .seen) refl)
+fixed-kept k l a xs s o p (command v) found keeps =
+    refixed k (rw (plainly v (keeps .0) .no-reset)) (or-none (k .seen) (plainly v (keeps .0) .no-reset))
+fixed-kept k l a xs s o p (address v) found keeps = refixed k refl (or-none (k .seen) refl)
+fixed-kept k l a xs s o p (dataIn v) found keeps =
+    refixed k (clear-kept (k .geometry) l (k .clear) (taking s) keeps) (or-none (k .seen) refl)
+fixed-kept k l a xs s o p dataOut found keeps = refixed k refl (or-none (k .seen) refl)

@@ -6,11 +6,11 @@ use mathlib.Core.Path.{_≡_, refl, sym, ap, _∙_}
 use mathlib.Core.List.{List}
 use Prim.Native.Nat.{ℕ, _<_}
 use lib.Seq.{ext-getD}
-use Rattle.target.specs.Place.{ready}
+use Rattle.target.specs.Luns.{lunReady}
 use Rattle.target.specs.declared.Event.{Event}
-use Rattle.step.specs.Step.{Buffers}
+use Rattle.step.specs.Step.{Buffers, State}
 use Rattle.thm_stations.specs.Mixture.{Owned, serial, Mixture}
-use Rattle.thm_stations.specs.Isolated.{State, log, end, Start, Isolated, Undisturbed, Isolation, Deletion}
+use Rattle.thm_stations.specs.Isolated.{log, end, Start, Isolated, Undisturbed, Isolation, Deletion}
 use Rattle.thm_stations.proofs.Agreement.{shares-all}
 use Rattle.thm_stations.proofs.Halves.{Fixed, fixedOf}
 use Rattle.thm_stations.proofs.Sorting.{reordered, mix-below}
@@ -33,8 +33,10 @@ module _ (params flags : List ℕ) (s : State) (es : List (Owned Event)) (ok : S
   starts : (l : ℕ) → Agreed params flags k l s s
   starts l = itself params flags k l s refl (ok .fine)
 
-  agree : (l : ℕ) → Agreed params flags k l (end params flags s (serial (s .target .geometry .luns) es)) (end params flags s es)
-  agree = sorted-agree params flags (ties params flags k) (s .target .geometry) lawful some es mix s (starts 0) (ok .closed)
+  agree : (l : ℕ)
+      → Agreed params flags k l (end params flags s (serial (s .target .geometry .luns) es)) (end params flags s es)
+  agree =
+      sorted-agree params flags (ties params flags k) (s .target .geometry) lawful some es mix s (starts 0) (ok .closed)
 
   memory : end params flags s (serial (s .target .geometry .luns) es) .buffers ≡ end params flags s es .buffers
   memory =
@@ -42,7 +44,9 @@ module _ (params flags : List ℕ) (s : State) (es : List (Owned Event)) (ok : S
       shares-all (s .target .geometry) _ _ (sizes-of params flags k _ (near .fixed) (near .fine)) (sizes-of params flags k _ (near .fixedʳ) (near .fineʳ)) (λ l. agree l .parts)
 
   answers : log params flags s (serial (s .target .geometry .luns) es) ≡ serial (s .target .geometry .luns) (log params flags s es)
-  answers = sorted-answers params flags (ties params flags k) (s .target .geometry) lawful some es mix s (starts 0) (ok .closed)
+  answers =
+      sorted-answers params flags (ties params flags k) (s .target .geometry) lawful some es mix s (starts 0)
+      (ok .closed)
 
   isolated : Isolated params flags s es
   isolated = record {
@@ -51,7 +55,7 @@ module _ (params flags : List ℕ) (s : State) (es : List (Owned Event)) (ok : S
     array = ap (λ (b : Buffers). b .array) memory;
     counts = ap (λ (b : Buffers). b .counts) memory;
     registers = ap (λ (b : Buffers). b .registers) memory;
-    luns = ext-getD ready _ _ (agree 0 .fine .four ∙ sym (agree 0 .fineʳ .four)) (λ l h. agree l .lun);
+    luns = ext-getD lunReady _ _ (agree 0 .fine .four ∙ sym (agree 0 .fineʳ .four)) (λ l h. agree l .lun);
   }
 
   undisturbed : (l : ℕ) → Undisturbed params flags s es l

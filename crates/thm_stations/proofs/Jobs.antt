@@ -1,133 +1,314 @@
--- Each whole job keeps to its LUN, from every decoder with no sequence open, and so does what its commands ask for. This is the file
--- that grows with the commands.
+-- Each whole job keeps to its LUN, from every decoder with no sequence open. The lemmas take the commands that open and
+-- close a job as parameters and ask for their attributes: a job of another command is one more line of `job-alike`.
 -- Assumes nothing.
 use mathlib.Core.Path.{_≡_, refl, sym, _∙_}
-use mathlib.Core.Bool.{Bool, true, false, false≢true}
+use mathlib.Core.Bool.{Bool, true, false, _&&_, _||_, not}
 use mathlib.Core.List.{List, [], _∷_}
-use Prim.Native.Nat.{ℕ, zero, suc, _+_}
+use Prim.Native.Nat.{ℕ, zero, suc}
 use lib.ListN.{replicate}
+use lib.Dec.{eqb}
+use borrow.Author.Tests.{not-true}
+use Rattle.target.specs.Pick.{pick}
 use Rattle.target.specs.Address.{columnFrom, lunOf}
-use Rattle.target.specs.Commands.{classOf, takesRow}
+use Rattle.target.specs.Commands.{rowOf, cyclesOf, endOf, thenOf, needsReady, waitsFor, takesColumn, takesRow, firstOf, secondRow, secondOf, classOf}
+use Rattle.target.specs.Views.{asksSelected, endedWith, endedBy, ending}
+use Rattle.target.specs.Place.{takesCommand}
 use Rattle.target.specs.declared.Column.{Column}
 use Rattle.target.specs.declared.Row.{Row}
 use Rattle.target.specs.declared.Decoder.{Decoder}
+use Rattle.target.specs.declared.Fill.{Fill}
 use Rattle.target.specs.declared.Geometry.{Geometry}
+use Rattle.target.specs.declared.Wait.{Wait}
 use Rattle.target.specs.declared.First.{First}
-use Rattle.target.specs.declared.First.the-variants.{Read, Jump, Fetch, Erase, Status, Look, Program, Identify, Parameters, GetFeature, SetFeature}
-use Rattle.target.specs.declared.Sequence.the-variants.{Idle, Columns, Rows, Filling}
+use Rattle.target.specs.declared.First.the-variants.{Read, ChangeColumnEnhanced, Erase, StatusEnhanced, Program}
+use Rattle.target.specs.declared.Sequence.{Sequence}
+use Rattle.target.specs.declared.Sequence.the-variants.{Idle, Columns, Rows, Due, Filling}
 use Rattle.target.specs.declared.Output.{Output}
 use Rattle.target.specs.declared.Output.the-variants as output
-use Rattle.target.specs.declared.Work.the-variants as work
-use Rattle.rules.specs.Rules.{isJump}
-use Rattle.effects.specs.After.{rowGiven, rowOutput, putOut, dueTask, sequenceAfter, outputAfter}
+use Rattle.target.specs.declared.commands.FirstFound.the-variants as first
+use Rattle.target.specs.declared.commands.SecondFound.{SecondFound}
+use Rattle.target.specs.declared.commands.SecondFound.the-variants as second
+use Rattle.target.specs.declared.commands.Then.the-variants as then
+use Rattle.target.specs.declared.views.Ender.{Ender}
+use Rattle.target.specs.declared.views.Ender.the-variants as ender
+use Rattle.target.proofs.Both.{both}
+use Rattle.effects.specs.Effects.{started, isMove, endedSequence, followed, sequenceAfter, endedOutput, shown, advanced, outputAfter}
 use Rattle.thm_kept.proofs.Choice.{by-pick}
 use Rattle.thm_stations.specs.Jobs.{Cycle, command, dataOut, eventOf, ColumnBytes, RowBytes, wholeRow, Piece, byte, move, pieces, two, three, Job, read, readOut, program, erase, status, cycles, lunNamed}
-use Rattle.thm_stations.proofs.OwnWork.{Mine}
 use Rattle.thm_stations.proofs.Ties.{Quiet}
-use Rattle.thm_stations.proofs.Course.{decoder, plain, SequenceOf, OutputOf, CycleOf, Course, leftover, at-start, Alike}
+use Rattle.thm_stations.proofs.Course.{decoder, isNobody, aimed, plain, plainly, EndedOf, GivenOf, TakerOf, OutputOf, CycleOf, Course, Spared, spared-address, spared-in, spared-out, spared-command, at-start, Alike}
 
--- the work of a second command is the row's LUN's
-pub due-mine : (g : Geometry) (l : ℕ) (f : First) (r : Row) (spoilt : Bool) → lunOf g r ≡ l → Mine g l (dueTask f r spoilt)
-unfolding Mine
-due-mine g l Read r spoilt q = q
-due-mine g l Jump r spoilt q = tt
-due-mine g l Fetch r spoilt q = tt
-due-mine g l Erase r spoilt q = by-pick (Mine g l) spoilt work.Nothing (work.Erase r) (λ _. tt) (λ _. q)
-due-mine g l Status r spoilt q = tt
-due-mine g l Look r spoilt q = tt
-due-mine g l Program r spoilt q = tt
-due-mine g l Identify r spoilt q = tt
-due-mine g l Parameters r spoilt q = tt
-due-mine g l GetFeature r spoilt q = tt
-due-mine g l SetFeature r spoilt q = tt
+-- v is the first command f, which has addresses, a row among them, and waits for no LUN
+pub record Opens (v : ℕ) (f : First) : Type 0 where
+  pub found : firstOf v ≡ first.Found f
+  pub no-reset : eqb v 0xff ≡ false
+  pub is-aimed : aimed f ≡ true
+  pub rowed : takesRow f ≡ true
 
--- what a second command other than 05h's puts out does not depend on the selected LUN
-pub put-any : (g : Geometry) (f : First) (c : Column) (r : Row) (a b : ℕ) → isJump f ≡ false → putOut g a f c r ≡ putOut g b f c r
-put-any g Read c r a b h = refl
-put-any g Jump c r a b h = absurd (false≢true (sym h))
-put-any g Fetch c r a b h = refl
-put-any g Erase c r a b h = refl
-put-any g Status c r a b h = refl
-put-any g Look c r a b h = refl
-put-any g Program c r a b h = refl
-put-any g Identify c r a b h = refl
-put-any g Parameters c r a b h = refl
-put-any g GetFeature c r a b h = refl
-put-any g SetFeature c r a b h = refl
+pub opens : {v : ℕ} {f : First} → firstOf v ≡ first.Found f → eqb v 0xff ≡ false → aimed f ≡ true → takesRow f ≡ true
+    → Opens v f
+opens found no-reset is-aimed rowed = record { found = found; no-reset = no-reset; is-aimed = is-aimed; rowed = rowed }
 
--- no later cycle of a job opens a sequence
-pieces-left : (ps : List Piece) → leftover (pieces ps) ≡ true
-unfolding leftover classOf
-pieces-left [] = refl
-pieces-left (byte v ∷ ps) = pieces-left ps
-pieces-left (move b ∷ ps) = pieces-left ps
+abbrev pub isMoved : SecondFound → Bool
+isMoved second.Nothing = false
+isMoved (second.Found s) = isMove (secondRow s .act)
 
-outs-left : (n : ℕ) → leftover (replicate n dataOut) ≡ true
-unfolding leftover
-outs-left zero = refl
-outs-left (suc n) = outs-left n
+-- v ends a sequence, and opens none
+pub record Closes (v : ℕ) : Type 0 where
+  pub is-plain : plain v ≡ true
+  pub not-first : takesCommand Idle v ≡ false
+  pub no-move : isMoved (secondOf v) ≡ false
 
--- a cycle before a row's third names no LUN
-early : {A : Type 0} → false ≡ true → A
-early h = absurd (false≢true h)
+pub closes : {v : ℕ} → plain v ≡ true → takesCommand Idle v ≡ false → isMoved (secondOf v) ≡ false → Closes v
+closes is-plain not-first no-move = record { is-plain = is-plain; not-first = not-first; no-move = no-move }
+
+none-of : (a : Bool) → (a && false) ≡ false
+none-of true = refl
+none-of false = refl
+
+-- a command with a row asks nothing of the selected LUN
+asks-nobody : (f : First) → takesRow f ≡ true → asksSelected f ≡ false
+asks-nobody f row = rw row (none-of (needsReady f))
+
+-- what closes a sequence leaves none open
+over-with : (x : SecondFound) (c : Column) (r : Row) (rowed : Bool) → isMoved x ≡ false
+    → endedSequence (endedWith x c r rowed) ≡ Idle
+over-with second.Nothing c r rowed h = refl
+over-with (second.Found s) c r rowed h = rw h
+
+over : (b : Bool) (v : ℕ) (c : Column) (r : Row) (rowed : Bool) → isMoved (secondOf v) ≡ false
+    → endedSequence (pick b (endedBy v c r rowed) ender.Nothing) ≡ Idle
+over true v c r rowed h = over-with (secondOf v) c r rowed h
+over false v c r rowed h = refl
 
 module _ (g : Geometry) where
-  -- the row of any first command, and the column before it
-  row-course : (f : First) (c : Column) (r : RowBytes) (cs : List Cycle) (o : Output) → Course g (lunOf g (wholeRow r)) cs (rowGiven f c (wholeRow r)) (rowOutput f (lunOf g (wholeRow r)) o)
-      → Course g (lunOf g (wholeRow r)) (three r cs) (Rows f c 0 0 0) o
-  unfolding Course CycleOf SequenceOf sequenceAfter outputAfter
-  row-course f c r cs o h = ((tt, early), λ _. ((tt, early), λ _. ((tt, λ _. refl), λ _. h)))
+  -- a second command has the sequence's row
+  ended-with : (x : SecondFound) (c : Column) (r : Row) (rowed : Bool) → rowed ≡ true
+      → EndedOf g (lunOf g r) (endedWith x c r rowed)
+  unfolding EndedOf
+  ended-with second.Nothing c r rowed h = tt
+  ended-with (second.Found s) c r rowed h = (h, refl)
 
-  column-course : (l : ℕ) (f : First) → takesRow f ≡ true → isJump f ≡ false → (c : ColumnBytes) (cs : List Cycle) (o : Output) → Course g l cs (Rows f (columnFrom (c .low) (c .high)) 0 0 0) o → Course g l (two c cs) (Columns f 0 0) o
-  unfolding Course CycleOf SequenceOf sequenceAfter outputAfter
-  column-course l f row jump c cs o h = ((jump, tt), λ _. ((jump, tt), λ _. rw row h))
+  ended-pick : (b : Bool) (v : ℕ) (c : Column) (r : Row) (rowed : Bool) → rowed ≡ true
+      → EndedOf g (lunOf g r) (pick b (endedBy v c r rowed) ender.Nothing)
+  unfolding EndedOf
+  ended-pick true v c r rowed h = ended-with (secondOf v) c r rowed h
+  ended-pick false v c r rowed h = tt
 
-  -- both, for a command with five address cycles
-  five-course : (f : First) → takesRow f ≡ true → isJump f ≡ false → (c : ColumnBytes) (r : RowBytes) (cs : List Cycle) (o : Output)
-      → Course g (lunOf g (wholeRow r)) cs (rowGiven f (columnFrom (c .low) (c .high)) (wholeRow r)) (rowOutput f (lunOf g (wholeRow r)) o)
-      → Course g (lunOf g (wholeRow r)) (two c (three r cs)) (Columns f 0 0) o
-  five-course f row jump c r cs o h = column-course (lunOf g (wholeRow r)) f row jump c (three r cs) o (row-course f (columnFrom (c .low) (c .high)) r cs o h)
+  -- and puts out that row's LUN
+  ended-output : (l : ℕ) (x : Ender) → EndedOf g l x → OutputOf l (endedOutput g l x)
+  unfolding EndedOf OutputOf
+  ended-output l ender.Nothing w = tt
+  ended-output l (ender.By k) w =
+      by-pick (OutputOf l) (secondRow (k .second) .shows)
+      (output.Register (pick (k .rowed) (lunOf g (k .row)) l) (k .column)) output.Nothing (λ _. rw (w .0) (w .1)) (λ _. tt)
 
-  -- data, moves and 10h
-  pieces-course : (r : Row) (ps : List Piece) (c : Column) (o : Output) → Course g (lunOf g r) (pieces ps) (Filling r c) o
-  unfolding Course CycleOf SequenceOf sequenceAfter outputAfter
-  pieces-course r [] c o = ((refl, refl), λ _. refl)
-  pieces-course r (byte v ∷ ps) c o = (refl, λ _. pieces-course r ps (record { 0 = c .0 + 1 }) o)
-  pieces-course r (move b ∷ ps) c o =
-      ((refl, refl), λ _. ((tt, tt), λ _. ((tt, tt), λ _. pieces-course r ps (columnFrom (b .low) (b .high)) output.Nothing)))
+  -- data out of what is the LUN's
+  advanced-of : (l : ℕ) (o : Output) → OutputOf l o → OutputOf l (advanced o)
+  unfolding OutputOf
+  advanced-of l output.Nothing q = q
+  advanced-of l (output.Register m c) q = q
+  advanced-of l (output.Parameters at) q = q
+  advanced-of l (output.Status m) q = q
+  advanced-of l (output.Ids at) q = q
+  advanced-of l (output.Signature at) q = q
+  advanced-of l (output.Feature at) q = q
 
-  -- data out of a register, and of a status
-  bytes-course : (l n : ℕ) (c : Column) → Course g l (replicate n dataOut) Idle (output.Register l c)
-  unfolding Course CycleOf OutputOf sequenceAfter outputAfter
-  bytes-course l zero c = refl
-  bytes-course l (suc n) c = (refl, λ _. bytes-course l n (record { 0 = c .0 + 1 }))
+  outs-course : (l n : ℕ) (o : Output) → OutputOf l o → Course g l (replicate n dataOut) Idle o
+  unfolding Course CycleOf sequenceAfter outputAfter
+  outs-course l zero o q = refl
+  outs-course l (suc n) o q = (q, λ _. outs-course l n (advanced o) (advanced-of l o q))
 
-  status-course : (l n : ℕ) → Course g l (replicate n dataOut) Idle (output.Status l)
-  unfolding Course CycleOf OutputOf sequenceAfter outputAfter
-  status-course l zero = refl
-  status-course l (suc n) = (refl, λ _. status-course l n)
+  outs-spared : (l n : ℕ) → Spared g l (replicate n dataOut)
+  unfolding Spared
+  outs-spared l zero = tt
+  outs-spared l (suc n) = spared-out g l (replicate n dataOut) (outs-spared l n)
+
+  -- a second command, and data out
+  second-spared : (l last n : ℕ) → Closes last → Spared g l (command last ∷ replicate n dataOut)
+  second-spared l last n k =
+      spared-command g l (replicate n dataOut) (outs-spared l n) last (k .is-plain) (k .not-first)
+
+  closed-course : (l v n : ℕ) (s : Sequence) (o : Output) → plain v ≡ true → EndedOf g l (ending s v)
+      → sequenceAfter s (eventOf (command v)) ≡ Idle → OutputOf l (outputAfter g l (decoder s o) (eventOf (command v)))
+      → Course g l (command v ∷ replicate n dataOut) s o
+  unfolding Course CycleOf
+  closed-course l v n s o known ends idle out =
+      ((known, ends), λ _. rw idle (outs-course l n (outputAfter g l (decoder s o) (eventOf (command v))) out))
+
+  due-course : (w : Wait) (last n : ℕ) (o : Output) → takesRow (w .first) ≡ true → Closes last
+      → Course g (lunOf g (w .row)) (command last ∷ replicate n dataOut) (Due w) o
+  unfolding sequenceAfter outputAfter
+  due-course w last n o row k =
+      let l = lunOf g (w .row) in
+      let test = eqb last (endOf (w .first)) in
+      let ends : EndedOf g l (ending (Due w) last) =
+      ended-pick test last (w .column) (w .row) (takesRow (w .first)) row in
+      let calm = plainly last (k .is-plain) .no-reset in
+      closed-course l last n (Due w) o (k .is-plain) ends
+      (rw calm (over test last (w .column) (w .row) (takesRow (w .first)) (k .no-move)))
+      (rw calm (ended-output l (ending (Due w) last) ends))
+
+  -- the last command of a program
+  last-course : (k : Fill) (last : ℕ) (o : Output) → Closes last
+      → Course g (lunOf g (k .row)) (command last ∷ []) (Filling k) o
+  unfolding sequenceAfter outputAfter
+  last-course k last o h =
+      let l = lunOf g (k .row) in
+      let test = eqb last 0x10 || eqb last 0x85 in
+      let ends : EndedOf g l (ending (Filling k) last) = ended-pick test last (k .at) (k .row) true refl in
+      let calm = plainly last (h .is-plain) .no-reset in
+      closed-course l last 0 (Filling k) o (h .is-plain) ends
+      (rw calm (over test last (k .at) (k .row) true (h .no-move)))
+      (rw calm (ended-output l (ending (Filling k) last) ends))
+
+  -- data and moves before it
+  pieces-course : (k : Fill) (last : ℕ) → Closes last → (ps : List Piece) (o : Output)
+      → Course g (lunOf g (k .row)) (pieces last ps) (Filling k) o
+  unfolding Course CycleOf EndedOf GivenOf TakerOf sequenceAfter outputAfter secondOf secondRow firstOf rowOf
+  pieces-course k last h [] o = last-course k last o h
+  pieces-course k last h (byte v ∷ ps) o = (refl, λ _. pieces-course _ last h ps o)
+  pieces-course k last h (move b ∷ ps) o =
+      ((refl, (refl, refl)), λ _. (tt, λ _. (refl, λ _. pieces-course _ last h ps output.Nothing)))
+
+  -- no move opens a sequence
+  pieces-spared : (l last : ℕ) → Closes last → (ps : List Piece) → Spared g l (pieces last ps)
+  unfolding classOf secondRow firstOf rowOf
+  pieces-spared l last h [] = second-spared l last 0 h
+  pieces-spared l last h (byte v ∷ ps) = spared-in g l (pieces last ps) (pieces-spared l last h ps) v
+  pieces-spared l last h (move b ∷ ps) =
+      spared-command g l _ (spared-address g l _ (spared-address g l _ (pieces-spared l last h ps) (b .high)) (b .low)) 0x85
+      refl refl
+
+  -- a course behind the addresses of a first command
+  abbrev Behind : First → Column → Row → List Cycle → Output → Type 0
+  Behind f c r cs o = Course g (lunOf g r) cs (followed (thenOf f) f c r) (shown (thenOf f) (lunOf g r) 0 o)
+
+  -- the addresses of any first command: its row, and the column before it
+  row-course : (f : First) (c : Column) (r : RowBytes) (cs : List Cycle) (o : Output)
+      → Behind f c (wholeRow r) cs o
+      → Course g (lunOf g (wholeRow r)) (three r cs)
+      (Rows (record { first = f; column = c; got = 0; low = 0; mid = 0 })) o
+  unfolding Course CycleOf GivenOf sequenceAfter outputAfter
+  row-course f c r cs o h = (tt, λ _. (tt, λ _. (refl, λ _. h)))
+
+  column-course : (l : ℕ) (f : First) → takesRow f ≡ true → (c : ColumnBytes) (cs : List Cycle) (o : Output)
+      → Course g l cs (Rows (record { first = f; column = columnFrom (c .low) (c .high); got = 0; low = 0; mid = 0 })) o
+      → Course g l (two c cs) (Columns (record { first = f; got = 0; low = 0 })) o
+  unfolding Course CycleOf GivenOf sequenceAfter outputAfter
+  column-course l f row c cs o h = (tt, λ _. (asks-nobody f row, λ _. rw row h))
+
+  spared-row : (l : ℕ) (r : RowBytes) (cs : List Cycle) → Spared g l cs → Spared g l (three r cs)
+  spared-row l r cs h =
+      spared-address g l _ (spared-address g l _ (spared-address g l cs h (r .high)) (r .mid)) (r .low)
+
+  spared-column : (l : ℕ) (c : ColumnBytes) (cs : List Cycle) → Spared g l cs → Spared g l (two c cs)
+  spared-column l c cs h = spared-address g l _ (spared-address g l cs h (c .high)) (c .low)
+
+  -- the sequence that a first command opens, and no output
+  opened-course : (l v : ℕ) (f : First) (cs : List Cycle) (o : Output) → Opens v f
+      → Course g l cs (started f) output.Nothing
+      → Course g l cs (sequenceAfter Idle (eventOf (command v)))
+      (outputAfter g l (decoder Idle o) (eventOf (command v)))
+  unfolding sequenceAfter outputAfter
+  opened-course l v f cs o k h =
+      let addresses = both (isNobody (waitsFor f)) (not (eqb (cyclesOf f) 0)) (k .is-aimed) .1 in
+      rw (k .no-reset, k .found, not-true (eqb (cyclesOf f) 0) addresses) h
 
   -- a job from its first command on, whatever was put out before
-  begun : (l v : ℕ) (cs : List Cycle) {d e : Decoder} → Quiet d → Quiet e → plain v ≡ true → leftover cs ≡ true
-      → Course g l cs (sequenceAfter Idle (eventOf (command v))) (outputAfter g l (decoder Idle output.Nothing) (eventOf (command v))) → Alike g l (command v ∷ cs) d e
-  unfolding Course CycleOf SequenceOf outputAfter
-  begun l v cs p q known left course = record { sequence = p ∙ sym q; standing = at-start; course = rw p ((known, tt), λ _. course); rest = left }
+  begun : (l v : ℕ) (f : First) (cs : List Cycle) {d e : Decoder} → Opens v f → Quiet d → Quiet e
+      → Course g l cs (started f) output.Nothing → Spared g l cs → Alike g l (command v ∷ cs) d e
+  unfolding Course CycleOf EndedOf
+  begun l v f cs {d} k p q course spared = record {
+    sequence = p ∙ sym q;
+    standing = at-start;
+    course = rw p ((rw (k .no-reset, k .found) (k .is-aimed), tt), λ _. opened-course l v f cs (d .output) k course);
+    rest = spared;
+  }
 
-  pub job-alike : (j : Job) {d e : Decoder} → Quiet d → Quiet e → Alike g (lunNamed g j) (cycles j) d e
-  unfolding cycles Course CycleOf SequenceOf sequenceAfter outputAfter leftover classOf
-  job-alike (read c r) p q =
-      begun _ _ _ p q refl refl
-      (five-course Read refl refl c r (command 0x30 ∷ []) output.Nothing ((refl, (refl, refl)), λ _. refl))
-  job-alike (readOut c r n) p q =
-      begun _ _ _ p q refl (outs-left n)
-      (five-course Fetch refl refl c r (command 0xe0 ∷ replicate n dataOut) output.Nothing
-      ((refl, (refl, refl)), λ _. bytes-course (lunOf g (wholeRow r)) n (columnFrom (c .low) (c .high))))
-  job-alike (program c r ps) p q =
-      begun _ _ _ p q refl (pieces-left ps)
-      (five-course Program refl refl c r (pieces ps) output.Nothing (pieces-course (wholeRow r) ps (columnFrom (c .low) (c .high)) output.Nothing))
-  job-alike (erase r) p q =
-      begun _ _ _ p q refl refl
-      (row-course Erase (record { 0 = 0 }) r (command 0xd0 ∷ []) output.Nothing ((refl, (refl, refl)), λ _. refl))
-  job-alike (status r n) p q =
-      begun _ _ _ p q refl (outs-left n)
-      (row-course Look (record { 0 = 0 }) r (replicate n dataOut) output.Nothing (status-course (lunOf g (wholeRow r)) n))
+  module _ (v : ℕ) (f : First) (opens : Opens v f) (r : RowBytes) (cs : List Cycle) {d e : Decoder} (p : Quiet d) (q : Quiet e) (spared : Spared g (lunOf g (wholeRow r)) cs) where
+    -- a command with five address cycles, and one with three
+    five : takesColumn f ≡ true → (c : ColumnBytes)
+        → Behind f (columnFrom (c .low) (c .high)) (wholeRow r) cs output.Nothing
+        → Alike g (lunOf g (wholeRow r)) (command v ∷ two c (three r cs)) d e
+    five column c h =
+        let l = lunOf g (wholeRow r) in
+        let at = columnFrom (c .low) (c .high) in
+        begun l v f (two c (three r cs)) opens p q
+        (rw column
+        (column-course l f (opens .rowed) c (three r cs) output.Nothing (row-course f at r cs output.Nothing h)))
+        (spared-column l c (three r cs) (spared-row l r cs spared))
+
+    three-only : takesColumn f ≡ false
+        → Behind f (record { 0 = 0 }) (wholeRow r) cs output.Nothing
+        → Alike g (lunOf g (wholeRow r)) (command v ∷ three r cs) d e
+    three-only column h =
+        let l = lunOf g (wholeRow r) in
+        begun l v f (three r cs) opens p q
+        (rw (column, opens .rowed) (row-course f (record { 0 = 0 }) r cs output.Nothing h))
+        (spared-row l r cs spared)
+
+  -- what follows the addresses: a second command and data out, a program's data, or data out of a status
+  second-follows : (f : First) (c : Column) (r : Row) (last n : ℕ) → thenOf f ≡ then.Second → takesRow f ≡ true
+      → Closes last
+      → Behind f c r (command last ∷ replicate n dataOut) output.Nothing
+  second-follows f c r last n then row k =
+      rw then (due-course (record { first = f; column = c; row = r }) last n output.Nothing row k)
+
+  data-follows : (f : First) (c : Column) (r : Row) (last : ℕ) (ps : List Piece) → thenOf f ≡ then.Data → Closes last
+      → Behind f c r (pieces last ps) output.Nothing
+  data-follows f c r last ps then k = rw then (pieces-course _ last k ps output.Nothing)
+
+  status-of : (l : ℕ) → OutputOf l (output.Status l)
+  unfolding OutputOf
+  status-of l = refl
+
+  status-follows : (f : First) (c : Column) (r : Row) (n : ℕ) → thenOf f ≡ then.Status
+      → Behind f c r (replicate n dataOut) output.Nothing
+  status-follows f c r n then = rw then (outs-course (lunOf g r) n (output.Status (lunOf g r)) (status-of (lunOf g r)))
+
+  -- The jobs, by the commands that open and close them.
+
+  -- a command with column and row, its second command, and data out
+  pub five-second : (v last : ℕ) (f : First) → Opens v f → takesColumn f ≡ true → thenOf f ≡ then.Second → Closes last
+      → (c : ColumnBytes) (r : RowBytes) (n : ℕ) {d e : Decoder} → Quiet d → Quiet e
+      → Alike g (lunOf g (wholeRow r)) (command v ∷ two c (three r (command last ∷ replicate n dataOut))) d e
+  five-second v last f k column then z c r n p q =
+      five v f k r (command last ∷ replicate n dataOut) p q (second-spared (lunOf g (wholeRow r)) last n z) column c
+      (second-follows f (columnFrom (c .low) (c .high)) (wholeRow r) last n then (k .rowed) z)
+
+  -- a command with a row alone, and its second command
+  pub three-second : (v last : ℕ) (f : First) → Opens v f → takesColumn f ≡ false → thenOf f ≡ then.Second → Closes last
+      → (r : RowBytes) {d e : Decoder} → Quiet d → Quiet e
+      → Alike g (lunOf g (wholeRow r)) (command v ∷ three r (command last ∷ [])) d e
+  three-second v last f k column then z r p q =
+      three-only v f k r (command last ∷ []) p q (second-spared (lunOf g (wholeRow r)) last 0 z) column
+      (second-follows f (record { 0 = 0 }) (wholeRow r) last 0 then (k .rowed) z)
+
+  -- a program: column and row, data and moves, its last command
+  pub five-data : (v last : ℕ) (f : First) → Opens v f → takesColumn f ≡ true → thenOf f ≡ then.Data → Closes last
+      → (c : ColumnBytes) (r : RowBytes) (ps : List Piece) {d e : Decoder} → Quiet d → Quiet e
+      → Alike g (lunOf g (wholeRow r)) (command v ∷ two c (three r (pieces last ps))) d e
+  five-data v last f k column then z c r ps p q =
+      five v f k r (pieces last ps) p q (pieces-spared (lunOf g (wholeRow r)) last z ps) column c
+      (data-follows f (columnFrom (c .low) (c .high)) (wholeRow r) last ps then z)
+
+  -- a status: a row, and data out
+  pub three-status : (v : ℕ) (f : First) → Opens v f → takesColumn f ≡ false → thenOf f ≡ then.Status
+      → (r : RowBytes) (n : ℕ) {d e : Decoder} → Quiet d → Quiet e
+      → Alike g (lunOf g (wholeRow r)) (command v ∷ three r (replicate n dataOut)) d e
+  three-status v f k column then r n p q =
+      three-only v f k r (replicate n dataOut) p q (outs-spared (lunOf g (wholeRow r)) n) column
+      (status-follows f (record { 0 = 0 }) (wholeRow r) n then)
+
+-- each job's commands have these attributes
+pub job-alike : (g : Geometry) (j : Job) {d e : Decoder} → Quiet d → Quiet e → Alike g (lunNamed g j) (cycles j) d e
+unfolding cycles rowOf firstOf secondRow secondOf classOf
+job-alike g (read c r) p q =
+    five-second g _ _ Read (opens refl refl refl refl) refl refl (closes refl refl refl) c r 0 p q
+job-alike g (readOut c r n) p q =
+    five-second g _ _ ChangeColumnEnhanced (opens refl refl refl refl) refl refl (closes refl refl refl) c r n p q
+job-alike g (program c r ps) p q =
+    five-data g _ _ Program (opens refl refl refl refl) refl refl (closes refl refl refl) c r ps p q
+job-alike g (erase r) p q = three-second g _ _ Erase (opens refl refl refl refl) refl refl (closes refl refl refl) r p q
+job-alike g (status r n) p q = three-status g _ StatusEnhanced (opens refl refl refl refl) refl refl r n p q

@@ -11,25 +11,29 @@ use Rattle.target.specs.declared.Event.{Event}
 use Rattle.target.proofs.Limits.{Limits, limits}
 use Rattle.step.proofs.Sound.{sound}
 use Rattle.thm_kept.proofs.Kept.{step-usable}
-use Rattle.thm_stations.specs.Isolated.{State, outcome, next, Fine}
+use Rattle.step.specs.Step.{State}
+use Rattle.thm_demands.specs.Runs.{stepAt}
+use Rattle.thm_stations.specs.Isolated.{next, Fine}
 use Rattle.thm_stations.proofs.Agreement.{SizesOf, edited-flip, edited-alike, edited-apart}
 use Rattle.thm_stations.proofs.Records.{changed-flip, changed-alike, changed-apart, changed-length}
 use Rattle.thm_stations.proofs.Halves.{Fixed, fixedOf}
 use Rattle.thm_stations.proofs.Ties.{Quiet, Ties, Laws}
-use Rattle.thm_stations.proofs.Course.{Course, leftover, at-end, Alike}
+use Rattle.thm_stations.proofs.Course.{Course, Spared, at-end, Alike}
 use Rattle.thm_stations.proofs.Jobs.{job-alike}
 use Rattle.thm_stations.proofs.Steps.{Moved, passing, Agreed, cycle-met, finish-met, finish-decoder}
 
 module _ (params flags : List ℕ) where
   -- the house limits, and room for a LUN's record
   pub limits-of : (s : State) → Fine params flags s → Limits (s .target .geometry)
-  limits-of s fine = limits (s .target .geometry) (sound (s .target) (passing params flags s fine .record-sound) .limited)
+  limits-of s fine =
+      limits (s .target .geometry) (sound (s .target) (passing params flags s fine .record-sound) .limited)
 
   module _ (k : Fixed) where
     pub sizes-of : (s : State) → fixedOf (s .target) ≡ k → Fine params flags s → SizesOf (k .geometry) (s .buffers)
     sizes-of s q fine = rw (← q) (passing params flags s fine .sizes)
 
-    has-record : (l : ℕ) (s : State) → l < k .geometry .luns → fixedOf (s .target) ≡ k → Fine params flags s → l < length (s .target .luns)
+    has-record : (l : ℕ) (s : State) → l < k .geometry .luns → fixedOf (s .target) ≡ k → Fine params flags s
+        → l < length (s .target .luns)
     has-record l s there q fine =
         let most = limits-of s fine .luns-max in
         omega (arith, rw (← q) at there, fine .four)
@@ -37,11 +41,11 @@ module _ (params flags : List ℕ) where
     -- an event of the l-th LUN
     pub record Moves (l : ℕ) (s u : State) (e : Event) : Type 0 where
       pub there : l < k .geometry .luns
-      pub moved : Moved k l s u (outcome params flags s e) (outcome params flags u e)
+      pub moved : Moved k l s u (stepAt params flags s e) (stepAt params flags u e)
 
     -- a sound state stays sound
-    fine-after : {l : ℕ} {s u : State} {e : Event} → Fine params flags s → Moves l s u e → Fine params flags (next params flags s e)
-    unfolding outcome next
+    fine-after : {l : ℕ} {s u : State} {e : Event} → Fine params flags s → Moves l s u e
+        → Fine params flags (next params flags s e)
     fine-after {s = s} {e = e} fine m = record {
       passes = step-usable (s .target) e params (s .buffers) flags (fine .passes);
       four = changed-length (m .moved .luns) ∙ fine .four;
@@ -73,7 +77,8 @@ module _ (params flags : List ℕ) where
       parts = record { array = sym (a .parts .array); registers = sym (a .parts .registers); counts = sym (a .parts .counts) };
     }
 
-    chain : {l : ℕ} {s u w : State} → Agreed params flags k l s u → Agreed params flags k l u w → Agreed params flags k l s w
+    chain : {l : ℕ} {s u w : State} → Agreed params flags k l s u → Agreed params flags k l u w
+        → Agreed params flags k l s w
     chain a b = record {
       fixed = a .fixed;
       fixedʳ = b .fixedʳ;
@@ -83,8 +88,8 @@ module _ (params flags : List ℕ) where
       parts = record { array = a .parts .array ∙ b .parts .array; registers = a .parts .registers ∙ b .parts .registers; counts = a .parts .counts ∙ b .parts .counts };
     }
 
-    both : {l : ℕ} {s u : State} {e : Event} → Agreed params flags k l s u → Moves l s u e → Agreed params flags k l (next params flags s e) (next params flags u e)
-    unfolding next
+    both : {l : ℕ} {s u : State} {e : Event} → Agreed params flags k l s u → Moves l s u e
+        → Agreed params flags k l (next params flags s e) (next params flags u e)
     both {l} {s} {u} {e} a m = record {
       fixed = m .moved .fixed;
       fixedʳ = m .moved .fixedʳ;
@@ -94,8 +99,8 @@ module _ (params flags : List ℕ) where
       parts = edited-alike (k .geometry) l (m .there) (s .buffers) (u .buffers) _ _ (sizes-of s (a .fixed) (a .fine)) (m .moved .buffers) (sizes-of u (a .fixedʳ) (a .fineʳ)) (a .parts);
     }
 
-    apart : {m l : ℕ} {s u w : State} {e : Event} → (m ≡ l → ⊥) → Agreed params flags k m s w → Moves l s u e → Agreed params flags k m (next params flags s e) w
-    unfolding next
+    apart : {m l : ℕ} {s u w : State} {e : Event} → (m ≡ l → ⊥) → Agreed params flags k m s w → Moves l s u e
+        → Agreed params flags k m (next params flags s e) w
     apart {m} {l} {s} {u} ne a v =
         chain
         (record {
@@ -113,15 +118,14 @@ module _ (params flags : List ℕ) where
 
     -- between jobs no sequence is open
     rests : {l : ℕ} {d e : Decoder} → Quiet d → Quiet e → Alike (k .geometry) l [] d e
-    unfolding Course leftover
-    rests p q = record { sequence = p ∙ sym q; standing = at-end; course = p; rest = refl }
+    unfolding Course Spared
+    rests p q = record { sequence = p ∙ sym q; standing = at-end; course = p; rest = tt }
 
     ends : {l : ℕ} {d e : Decoder} → Alike (k .geometry) l [] d e → Quiet d × Quiet e
     unfolding Course
     ends a = (a .course, sym (a .sequence) ∙ a .course)
 
     pub laws : k .clear ≡ true → Laws params flags (k .geometry) ties
-    unfolding next
     laws on = record {
       itself = λ {l} {s} m a. itself m s (a .fixed) (a .fine);
       flip = flip;

@@ -15,25 +15,27 @@ use lib.ListN.{replicate}
 use Rattle.slices.specs.Cells.{splice, part, andBytes}
 use Rattle.target.specs.Pick.{orElse}
 use Rattle.target.specs.Events.{badRecord}
-use Rattle.target.specs.Commands.{classOf, offered}
+use Rattle.target.specs.Commands.{rowOf, firstOf, secondRow, secondOf, classOf, offered}
 use Rattle.target.specs.Address.{bitsOf, fieldWidth, columnFrom, rowFrom, lunOf, pageOf, blockOf, lunExists, blockExists, rowExists}
-use Rattle.target.specs.Sizes.{inLimits, sized}
+use Rattle.target.specs.Sizes.{pageSize, inLimits, sized}
+use Rattle.target.specs.Words.{bitOf}
 use Rattle.target.specs.declared.Reply.{Reply}
 use Rattle.target.specs.declared.Reply.the-variants.{Accepted, Byte}
-use Rattle.rules.specs.Rules.{unknown, beforeReset, fits, misplaced, outOfRange, lunWorks, othersBusy, lineLow, pastEnd, notOffered, notWorking, lineHeld, verdict}
-use Rattle.effects.specs.After.{sequenceAfter, outputAfter, lunsAfter, selectedAfter, clearAfter, highAfter, targetAfter, targetRefused, workOf}
+use Rattle.rules.specs.Rules.{unknown, beforeReset, fits, misplaced, outOfRange, lunWorks, othersBusy, lineLow, pastEnd, notOffered, notWorking, lineHeld, rules, verdict}
+use Rattle.effects.specs.Effects.{sequenceAfter, outputAfter, lunsAfter, selectedAfter, clearAfter, highAfter, targetAfter, targetRefused, workOf}
 use Rattle.step.specs.Usable.{recordSound, usable}
-use Rattle.step.specs.Buffers.{blockIndex, pageIndex, registersAfter, arrayAfter, countsAfter, blockBad, pageFull, spoiltBy, statusOf, outputByte}
+use Rattle.step.specs.Buffers.{blockIndex, pageIndex, registersAfter, arrayAfter, countsAfter, blockBad, pageFull, findings, statusOf, outputByte}
 use Rattle.step.specs.Step.{replyOf, worked, acceptedBy, accepted, byVerdict, steady, stepOf}
 use Rattle.thm_stations.specs.Jobs.{ColumnBytes, RowBytes, readOut, program, status, byte, move, cycles}
 use Rattle.thm_stations.specs.Mixture.{Owned, those, serial, over, start, cycle, finish, Mixture}
-use Rattle.thm_stations.specs.Isolated.{Told, outcome, next, log, end, Start, Isolated, Undisturbed}
+use Rattle.thm_demands.specs.Runs.{after}
+use Rattle.thm_stations.specs.Isolated.{Told, log, end, Start, Isolated, Undisturbed}
 use Rattle.thm_stations.specs.LostPreset.{t1, params, flags, readyState, startWith, setUp, events, toldIn}
 use Rattle.thm_stations.proofs.Isolation.{isolation, deletion}
 
 -- every definition of the step is computed
 computes : Unit {0}
-unfolding splice part andBytes orElse badRecord classOf offered bitsOf fieldWidth columnFrom rowFrom lunOf pageOf blockOf lunExists blockExists rowExists inLimits sized unknown beforeReset fits misplaced outOfRange lunWorks othersBusy lineLow pastEnd notOffered notWorking lineHeld verdict sequenceAfter outputAfter lunsAfter selectedAfter clearAfter highAfter targetAfter targetRefused workOf recordSound usable blockIndex pageIndex registersAfter arrayAfter countsAfter blockBad pageFull spoiltBy statusOf outputByte replyOf worked acceptedBy accepted byVerdict steady stepOf those serial outcome next log end
+unfolding splice part andBytes orElse badRecord rowOf firstOf secondRow secondOf classOf offered bitOf bitsOf fieldWidth columnFrom rowFrom lunOf pageOf blockOf lunExists blockExists rowExists pageSize inLimits sized unknown beforeReset fits misplaced outOfRange lunWorks othersBusy lineLow pastEnd notOffered notWorking lineHeld rules verdict sequenceAfter outputAfter lunsAfter selectedAfter clearAfter highAfter targetAfter targetRefused workOf recordSound usable blockIndex pageIndex registersAfter arrayAfter countsAfter blockBad pageFull findings statusOf outputByte replyOf worked acceptedBy accepted byVerdict steady stepOf those serial after log end
 computes = tt
 
 -- a run gets to the start

@@ -9,7 +9,9 @@ use Rattle.target.specs.declared.Decoder.{Decoder}
 use Rattle.target.specs.declared.Geometry.{Geometry}
 use Rattle.thm_stations.specs.Jobs.{Cycle, eventOf, finishOf, Job, cycles, lunNamed}
 use Rattle.thm_stations.specs.Mixture.{Owned, those, Mix, over, start, cycle, finish}
-use Rattle.thm_stations.specs.Isolated.{State, Told, outcome, next, log, end}
+use Rattle.step.specs.Step.{State}
+use Rattle.thm_demands.specs.Runs.{stepAt, after}
+use Rattle.thm_stations.specs.Isolated.{Told, next, log, end}
 use Rattle.thm_stations.proofs.Sorting.{those-hit, those-miss}
 use Rattle.thm_stations.proofs.Ties.{Quiet, Ties, decoderOf, Laws}
 
@@ -25,11 +27,12 @@ module _ (params flags : List ℕ) (t : Ties) where
   module _ (g : Geometry) (laws : Laws params flags g t) (l : ℕ) where
     -- an event of the l-th LUN, and one of another
     module _ (s u : State) (x : Owned Event) (es : List (Owned Event)) where
-      met : x .own ≡ l → t .Agree l s u → t .Moves l s u (x .it) → Seen l (next params flags s (x .it)) (next params flags u (x .it)) es → Seen l s u (x ∷ es)
-      unfolding log end
+      met : x .own ≡ l → t .Agree l s u → t .Moves l s u (x .it)
+          → Seen l (next params flags s (x .it)) (next params flags u (x .it)) es → Seen l s u (x ∷ es)
+      unfolding log end after
       met q a m p =
           let hit = those-hit l x es q in
-          let told : State → Owned Told = λ w. record { own = x .own; it = record { event = x .it; reply = outcome params flags w (x .it) .reply } } in
+          let told : State → Owned Told = λ w. record { own = x .own; it = record { event = x .it; reply = stepAt params flags w (x .it) .reply } } in
           record {
             answers = those-hit l (told s) (log params flags (next params flags s (x .it)) es) q
                 ∙ (λ i. record { own = x .own; it = record { event = x .it; reply = laws .answers m i } } ∷ p .answers i)
@@ -41,10 +44,10 @@ module _ (params flags : List ℕ) (t : Ties) where
           }
 
       passed : (x .own ≡ l → ⊥) → Seen l (next params flags s (x .it)) u es → Seen l s u (x ∷ es)
-      unfolding log end
+      unfolding log end after
       passed q p =
           let miss = those-miss l x es q in
-          let told : Owned Told = record { own = x .own; it = record { event = x .it; reply = outcome params flags s (x .it) .reply } } in
+          let told : Owned Told = record { own = x .own; it = record { event = x .it; reply = stepAt params flags s (x .it) .reply } } in
           record {
             answers = those-miss l told (log params flags (next params flags s (x .it)) es) q ∙ p .answers ∙ ap (log params flags u) (sym miss);
             agree = rw miss (p .agree);
@@ -68,9 +71,11 @@ module _ (params flags : List ℕ) (t : Ties) where
       | no q ↦ other (λ r. q (sym r)) (laws .begins j (h .0) (h .0)) (h .1)
     ]
 
-    pub project : {o : ℕ} {cs : List Cycle} {es : List (Owned Event)} → Mix g o cs es → o < g .luns → (s u : State) → t .Agree l s u → Held o cs (decoderOf s) (decoderOf u) → Seen l s u es
-    unfolding those log end
-    project over there s u a h = record { answers = refl; agree = a; elsewhere = λ k ne. laws .itself k (laws .flip a); quiet = at-rest h .0; quietʳ = at-rest h .1 }
+    pub project : {o : ℕ} {cs : List Cycle} {es : List (Owned Event)} → Mix g o cs es → o < g .luns → (s u : State)
+        → t .Agree l s u → Held o cs (decoderOf s) (decoderOf u) → Seen l s u es
+    unfolding those log end after
+    project over there s u a h =
+        record { answers = refl; agree = a; elsewhere = λ k ne. laws .itself k (laws .flip a); quiet = at-rest h .0; quietʳ = at-rest h .1 }
     project (start j jt mix) there s u a h = project mix jt s u a (restart j (at-rest h))
     project (cycle {o = o} {c = c} {es = es} mix) there s u a (mine q d) =
         let lt : l < g .luns = rw (← q) there in

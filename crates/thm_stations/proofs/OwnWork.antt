@@ -3,7 +3,7 @@
 -- Assumes nothing.
 use mathlib.Core.Path.{_≡_, refl, ap, _∙_}
 use mathlib.Core.List.{List, [], _∷_}
-use mathlib.Core.Bool.{true}
+use mathlib.Core.Bool.{Bool, true, false}
 use Prim.Native.Nat.{ℕ, _+_, _*_, _<_}
 use native.Mathlib.Nat.{le-refl}
 use native.Mathlib.Omega.{arith}
@@ -13,6 +13,7 @@ use Rattle.slices.proofs.Anded.{length-and}
 use Rattle.slices.proofs.Splice.{piece}
 use Rattle.slices.proofs.Parts.{parts-alike, getD-alike, set-splice}
 use Rattle.target.specs.Address.{lunOf, rowExists}
+use Rattle.target.specs.Sizes.{pageSize}
 use Rattle.target.specs.declared.Geometry.{Geometry}
 use Rattle.target.specs.declared.Row.{Row}
 use Rattle.target.specs.declared.Work.{Work}
@@ -24,7 +25,7 @@ use Rattle.thm_kept.proofs.Lengths.{part-length}
 use Rattle.thm_stations.specs.Isolated.{lunBytes, lunPages}
 use Rattle.thm_stations.proofs.Edits.{Edit, as-is, put, put-alike}
 use Rattle.thm_stations.proofs.Shares.{pageWithin, block-low, block-bytes-low, block-high, block-bytes-high, page-place, page-low, page-bytes-low, page-within, page-high, page-bytes-high}
-use Rattle.thm_stations.proofs.Agreement.{Parts, SizesOf, Edited}
+use Rattle.thm_stations.proofs.Agreement.{ArrayAgrees, RegisterAgrees, CountsAgree, Parts, SizesOf, Edited}
 
 -- the work has to do with no LUN but the l-th
 unfoldable pub Mine : Geometry → ℕ → Work → Type 0
@@ -36,53 +37,80 @@ Mine g l (Put m c v) = m ≡ l
 Mine g l (Program r) = lunOf g r ≡ l
 Mine g l (Erase r) = lunOf g r ≡ l
 
+-- the work puts the register into the array
+abbrev pub burns : Work → Bool
+burns Nothing = false
+burns ClearAll = false
+burns (ClearOne m) = false
+burns (Load r) = false
+burns (Put m c v) = false
+burns (Program r) = true
+burns (Erase r) = false
+
 module _ (g : Geometry) (b c : Buffers) (sizes : SizesOf g b) (sizesʳ : SizesOf g c) where
   -- the page and the count of a row
-  page-alike : (r : Row) → rowExists g r ≡ true → Parts g (lunOf g r) b c → part (b .array) (pageIndex g r * g .page) (g .page) ≡ part (c .array) (pageIndex g r * g .page) (g .page)
-  page-alike r there a = parts-alike (b .array) (c .array) (lunOf g r * lunBytes g) (lunBytes g) (a .array) _ (g .page) (page-bytes-low g r) (page-bytes-high g r there)
+  page-alike : (r : Row) → rowExists g r ≡ true → ArrayAgrees g (lunOf g r) b c
+      → part (b .array) (pageIndex g r * pageSize g) (pageSize g) ≡ part (c .array) (pageIndex g r * pageSize g) (pageSize g)
+  page-alike r there a =
+      parts-alike (b .array) (c .array) (lunOf g r * lunBytes g) (lunBytes g) a _ (pageSize g) (page-bytes-low g r)
+      (page-bytes-high g r there)
 
-  pub count-alike : (r : Row) → rowExists g r ≡ true → Parts g (lunOf g r) b c → getD (b .counts) (pageIndex g r) 0 ≡ getD (c .counts) (pageIndex g r) 0
-  count-alike r there a = rw (page-place g r) (getD-alike (b .counts) (c .counts) (lunOf g r * lunPages g) (lunPages g) (a .counts) (pageWithin g r) (page-within g r there))
+  pub count-alike : (r : Row) → rowExists g r ≡ true → CountsAgree g (lunOf g r) b c
+      → getD (b .counts) (pageIndex g r) 0 ≡ getD (c .counts) (pageIndex g r) 0
+  count-alike r there a = rw (page-place g r) (getD-alike (b .counts) (c .counts) (lunOf g r * lunPages g) (lunPages g) a (pageWithin g r) (page-within g r there))
 
   -- a whole register is replaced
-  replaced : (l : ℕ) (new newʳ : List ℕ) → new ≡ newʳ → length new ≡ g .page → Edit (g .page) l (b .registers) (c .registers) (splice (b .registers) (l * g .page) (g .page) new) (splice (c .registers) (l * g .page) (g .page) newʳ)
-  replaced l new newʳ e same = put-alike (l * g .page) (g .page) new newʳ e (le-refl _) (le-refl _) same
+  replaced : (l : ℕ) (new newʳ : List ℕ) → new ≡ newʳ → length new ≡ pageSize g
+      → Edit (pageSize g) l (b .registers) (c .registers) (splice (b .registers) (l * pageSize g) (pageSize g) new) (splice (c .registers) (l * pageSize g) (pageSize g) newʳ)
+  replaced l new newʳ e same = put-alike (l * pageSize g) (pageSize g) new newʳ e (le-refl _) (le-refl _) same
 
-  register-length : (l : ℕ) → l < g .luns → length (part (b .registers) (l * g .page) (g .page)) ≡ g .page
-  register-length l h = part-length (b .registers) (l * g .page) (g .page) (omega (arith, piece (g .page) h, sizes .registers-size))
+  register-length : (l : ℕ) → l < g .luns → length (part (b .registers) (l * pageSize g) (pageSize g)) ≡ pageSize g
+  register-length l h =
+      part-length (b .registers) (l * pageSize g) (pageSize g)
+      (omega (arith, piece (pageSize g) h, sizes .registers-size))
 
-  page-length : (r : Row) → rowExists g r ≡ true → length (part (b .array) (pageIndex g r * g .page) (g .page)) ≡ g .page
-  page-length r there = part-length (b .array) (pageIndex g r * g .page) (g .page) (omega (arith, page-bytes-end g r there, sizes .array-size))
+  page-length : (r : Row) → rowExists g r ≡ true
+      → length (part (b .array) (pageIndex g r * pageSize g) (pageSize g)) ≡ pageSize g
+  page-length r there =
+      part-length (b .array) (pageIndex g r * pageSize g) (pageSize g)
+      (omega (arith, page-bytes-end g r there, sizes .array-size))
 
-  registers-edit : (w : Work) (l : ℕ) → Ready g w (b .counts) → Mine g l w → Parts g l b c → Edit (g .page) l (b .registers) (c .registers) (registersAfter g w (b .array) (b .registers)) (registersAfter g w (c .array) (c .registers))
+  pub registers-edit : (w : Work) (l : ℕ) → Ready g w (b .counts) → Mine g l w → ArrayAgrees g l b c
+      → RegisterAgrees g l b c
+      → Edit (pageSize g) l (b .registers) (c .registers) (registersAfter g w (b .array) (b .registers)) (registersAfter g w (c .array) (c .registers))
   unfolding registersAfter Ready Mine
-  registers-edit Nothing l ok mine a = as-is
-  registers-edit ClearAll l ok mine a = absurd mine
-  registers-edit (ClearOne m) l ok mine a = rw (← mine) (replaced m _ _ refl (length-replicate (g .page) 0xff))
-  registers-edit (Load r) l ok mine a = rw (← mine) (replaced (lunOf g r) _ _ (page-alike r ok (rw mine a)) (page-length r ok))
-  registers-edit (Put m k v) l ok mine a =
-      let here : Parts g m b c = rw mine a in
+  registers-edit Nothing l ok mine a own = as-is
+  registers-edit ClearAll l ok mine a own = absurd mine
+  registers-edit (ClearOne m) l ok mine a own = rw (← mine) (replaced m _ _ refl (length-replicate (pageSize g) 0xff))
+  registers-edit (Load r) l ok mine a own =
+      rw (← mine) (replaced (lunOf g r) _ _ (page-alike r ok (rw mine a)) (page-length r ok))
+  registers-edit (Put m k v) l ok mine a own =
+      let here : RegisterAgrees g m b c = rw mine own in
       rw (← mine)
-      (replaced m _ _ (ap (λ (s : List ℕ). set s (k .0) v) (here .registers)) (length-set (part (b .registers) (m * g .page) (g .page)) (k .0) v ∙ register-length m (ok .0)))
-  registers-edit (Program r) l ok mine a = as-is
-  registers-edit (Erase r) l ok mine a = as-is
+      (replaced m _ _ (ap (λ (s : List ℕ). set s (k .0) v) here) (length-set (part (b .registers) (m * pageSize g) (pageSize g)) (k .0) v ∙ register-length m (ok .0)))
+  registers-edit (Program r) l ok mine a own = as-is
+  registers-edit (Erase r) l ok mine a own = as-is
 
-  array-edit : (w : Work) (l : ℕ) → Ready g w (b .counts) → Mine g l w → Parts g l b c → Edit (lunBytes g) l (b .array) (c .array) (arrayAfter g w (b .array) (b .registers)) (arrayAfter g w (c .array) (c .registers))
+  pub array-edit : (w : Work) (l : ℕ) → Ready g w (b .counts) → Mine g l w → ArrayAgrees g l b c
+      → (burns w ≡ true → RegisterAgrees g l b c)
+      → Edit (lunBytes g) l (b .array) (c .array) (arrayAfter g w (b .array) (b .registers)) (arrayAfter g w (c .array) (c .registers))
   unfolding arrayAfter Ready Mine
-  array-edit Nothing l ok mine a = as-is
-  array-edit ClearAll l ok mine a = absurd mine
-  array-edit (ClearOne m) l ok mine a = as-is
-  array-edit (Load r) l ok mine a = as-is
-  array-edit (Put m k v) l ok mine a = as-is
-  array-edit (Program r) l ok mine a =
-      let here : Parts g (lunOf g r) b c = rw mine a in
-      let old = part (b .array) (pageIndex g r * g .page) (g .page) in
+  array-edit Nothing l ok mine a own = as-is
+  array-edit ClearAll l ok mine a own = absurd mine
+  array-edit (ClearOne m) l ok mine a own = as-is
+  array-edit (Load r) l ok mine a own = as-is
+  array-edit (Put m k v) l ok mine a own = as-is
+  array-edit (Program r) l ok mine a own =
+      let here : ArrayAgrees g (lunOf g r) b c = rw mine a in
+      let register : RegisterAgrees g (lunOf g r) b c = rw mine (own refl) in
+      let old = part (b .array) (pageIndex g r * pageSize g) (pageSize g) in
       rw (← mine)
-      (put-alike _ (g .page) _ _ (λ i. andBytes (page-alike r (ok .0) here i) (here .registers i)) (page-bytes-low g r) (page-bytes-high g r (ok .0)) (length-and old _ ∙ page-length r (ok .0)))
-  array-edit (Erase r) l ok mine a =
-      rw (← mine) (put _ (g .pages * g .page) _ (block-bytes-low g r) (block-bytes-high g r ok) (length-replicate _ _))
+      (put-alike _ (pageSize g) _ _ (λ i. andBytes (page-alike r (ok .0) here i) (register i)) (page-bytes-low g r) (page-bytes-high g r (ok .0)) (length-and old _ ∙ page-length r (ok .0)))
+  array-edit (Erase r) l ok mine a own =
+      rw (← mine) (put _ (g .pages * pageSize g) _ (block-bytes-low g r) (block-bytes-high g r ok) (length-replicate _ _))
 
-  counts-edit : (w : Work) (l : ℕ) → Ready g w (b .counts) → Mine g l w → Parts g l b c → Edit (lunPages g) l (b .counts) (c .counts) (countsAfter g w (b .counts)) (countsAfter g w (c .counts))
+  pub counts-edit : (w : Work) (l : ℕ) → Ready g w (b .counts) → Mine g l w → CountsAgree g l b c
+      → Edit (lunPages g) l (b .counts) (c .counts) (countsAfter g w (b .counts)) (countsAfter g w (c .counts))
   unfolding countsAfter Ready Mine
   counts-edit Nothing l ok mine a = as-is
   counts-edit ClearAll l ok mine a = absurd mine
@@ -90,14 +118,17 @@ module _ (g : Geometry) (b c : Buffers) (sizes : SizesOf g b) (sizesʳ : SizesOf
   counts-edit (Load r) l ok mine a = as-is
   counts-edit (Put m k v) l ok mine a = as-is
   counts-edit (Program r) l ok mine a =
-      let here : Parts g (lunOf g r) b c = rw mine a in
+      let here : CountsAgree g (lunOf g r) b c = rw mine a in
       let at = pageIndex g r in
       let new = getD (b .counts) at 0 + 1 in
       let room = page-below g r (ok .0) in
       rw (← mine, ← count-alike r (ok .0) here, set-splice (b .counts) at new (omega (arith, sizes .counts-size)), set-splice (c .counts) at new (omega (arith, sizesʳ .counts-size)))
       (put at 1 (new ∷ []) (page-low g r) (page-high g r (ok .0)) refl)
-  counts-edit (Erase r) l ok mine a = rw (← mine) (put _ (g .pages) _ (block-low g r) (block-high g r ok) (length-replicate _ _))
+  counts-edit (Erase r) l ok mine a =
+      rw (← mine) (put _ (g .pages) _ (block-low g r) (block-high g r ok) (length-replicate _ _))
 
-  pub worked-edited : (w : Work) (l : ℕ) → Ready g w (b .counts) → Mine g l w → Parts g l b c → Edited g l b c (worked g w b) (worked g w c)
+  pub worked-edited : (w : Work) (l : ℕ) → Ready g w (b .counts) → Mine g l w → Parts g l b c
+      → Edited g l b c (worked g w b) (worked g w c)
   unfolding worked
-  worked-edited w l ok mine a = record { array = array-edit w l ok mine a; registers = registers-edit w l ok mine a; counts = counts-edit w l ok mine a }
+  worked-edited w l ok mine a =
+      record { array = array-edit w l ok mine (a .array) (λ _. a .registers); registers = registers-edit w l ok mine (a .array) (a .registers); counts = counts-edit w l ok mine (a .counts) }

@@ -1,56 +1,55 @@
 -- Every run from an accepted power-on keeps four LUN records and rule 13, so demand 3 holds from whatever state it reaches.
 -- Assumes nothing.
 use mathlib.Core.Path.{_≡_, refl, sym, subst, _∙_}
-use mathlib.Core.Bool.{Bool, true, false}
+use mathlib.Core.Bool.{Bool, true, false, not}
 use mathlib.Core.List.{List, [], _∷_}
 use Prim.Native.Nat.{ℕ}
 use lib.ListN.{length, length-set}
 use lib.Dec.{eqb}
 use Rattle.target.specs.Pick.{pick}
+use Rattle.target.specs.Commands.{secondRow}
 use Rattle.target.specs.Events.{isReset}
+use Rattle.target.specs.Luns.{allReady}
+use Rattle.target.specs.Views.{ending}
 use Rattle.target.specs.declared.Event.{Event}
+use Rattle.target.specs.declared.Findings.{Findings}
 use Rattle.target.specs.declared.Geometry.{Geometry}
 use Rattle.target.specs.declared.Lun.{Lun}
 use Rattle.target.specs.declared.Reply.the-variants as reply
 use Rattle.target.specs.declared.Refusal.the-variants as refusal
 use Rattle.target.specs.declared.Sequence.{Sequence}
-use Rattle.target.specs.declared.Sequence.the-variants.{Idle, Columns, Rows, Single, Due, Filling, Moving, Setting}
 use Rattle.target.specs.declared.Target.{Target}
+use Rattle.target.specs.declared.views.Ender.{Ender}
+use Rattle.target.specs.declared.views.Ender.the-variants as ender
 use Rattle.target.specs.declared.Verdict.{Verdict}
 use Rattle.target.specs.declared.Verdict.the-variants as verdicts
 use Rattle.rules.specs.Rules.{verdict}
-use Rattle.effects.specs.After.{dueWork, dueFail, begun, commandLuns, finished, allReady, lunsAfter, targetAfter, targetRefused}
+use Rattle.effects.specs.Effects.{begun, endedLuns, finished, lunsAfter, targetAfter, targetRefused}
 use Rattle.power.specs.Power.{poweredOf}
 use Rattle.step.specs.Usable.{usable}
-use Rattle.step.specs.Step.{Buffers, steady, byVerdict, accepted, acceptedBy, stepOf}
+use Rattle.step.specs.Step.{Buffers, steady, byVerdict, accepted, acceptedBy, stepOf, State}
 use Rattle.thm_kept.proofs.Choice.{by-pick}
 use Rattle.thm_demands.specs.Runs.{after, poweredUp, left, stepAt}
-use Rattle.thm_demands.specs.Runs as runs
 use Rattle.thm_demands.proofs.Promised.{powered-fit, run-fit}
-use Rattle.thm_stations.specs.Isolated.{State, Fine, Start}
-use Rattle.thm_stations.specs.Reached.{FromPowerOn, reachedBy}
+use Rattle.thm_stations.specs.Isolated.{Fine, Start}
+use Rattle.thm_stations.specs.Reached.{FromPowerOn}
 use Rattle.thm_stations.proofs.Isolation.{isolation}
 
 -- as many LUN records as before
-command-count : (g : Geometry) (luns : List Lun) (s : Sequence) (v : ℕ) (spoilt : Bool) → length (commandLuns g luns s v spoilt) ≡ length luns
-command-count g luns Idle v spoilt = refl
-command-count g luns (Columns f got low) v spoilt = refl
-command-count g luns (Rows f c got low mid) v spoilt = refl
-command-count g luns (Single f) v spoilt = refl
-command-count g luns (Due f c r) v spoilt =
-    by-pick (λ (x : List Lun). length x ≡ length luns) (dueWork f) (begun g luns r (dueFail f spoilt)) luns (λ _. length-set luns _ _) (λ _. refl)
-command-count g luns (Filling r at) v spoilt =
-    by-pick (λ (x : List Lun). length x ≡ length luns) (eqb v 0x10) (begun g luns r spoilt) luns (λ _. length-set luns _ _) (λ _. refl)
-command-count g luns (Moving r got low) v spoilt = refl
-command-count g luns (Setting got value) v spoilt = refl
+ended-count : (g : Geometry) (luns : List Lun) (x : Ender) (found : Findings)
+    → length (endedLuns g luns x found) ≡ length luns
+ended-count g luns ender.Nothing found = refl
+ended-count g luns (ender.By k) found =
+    by-pick (λ (y : List Lun). length y ≡ length luns) (secondRow (k .second) .starts) (begun g luns (k .row) (not (found .proceeds))) luns (λ _. length-set luns _ _) (λ _. refl)
 
-luns-four : (g : Geometry) (luns : List Lun) (s : Sequence) (e : Event) (spoilt : Bool) → length luns ≡ 4 → length (lunsAfter g luns s e spoilt) ≡ 4
+luns-four : (g : Geometry) (luns : List Lun) (s : Sequence) (e : Event) (found : Findings) → length luns ≡ 4
+    → length (lunsAfter g luns s e found) ≡ 4
 unfolding lunsAfter
-luns-four g luns s e spoilt h =
+luns-four g luns s e found h =
     let l1 = pick (eqb (e .kind) 4) (finished luns (e .value)) luns in
-    let l0 = pick (eqb (e .kind) 0) (commandLuns g luns s (e .value) spoilt) l1 in
+    let l0 = pick (eqb (e .kind) 0) (endedLuns g luns (ending s (e .value)) found) l1 in
     by-pick (λ (x : List Lun). length x ≡ 4) (isReset e) allReady l0 (λ _. refl)
-    (λ _. by-pick (λ (x : List Lun). length x ≡ 4) (eqb (e .kind) 0) (commandLuns g luns s (e .value) spoilt) l1 (λ _. command-count g luns s (e .value) spoilt ∙ h)
+    (λ _. by-pick (λ (x : List Lun). length x ≡ 4) (eqb (e .kind) 0) (endedLuns g luns (ending s (e .value)) found) l1 (λ _. ended-count g luns (ending s (e .value)) found ∙ h)
     (λ _. by-pick (λ (x : List Lun). length x ≡ 4) (eqb (e .kind) 4) (finished luns (e .value)) luns (λ _. length-set luns _ _ ∙ h) (λ _. h)))
 
 module _ (t : Target) (e : Event) (page : List ℕ) (b : Buffers) (flags : List ℕ) (h : length (t .luns) ≡ 4) where
@@ -59,19 +58,23 @@ module _ (t : Target) (e : Event) (page : List ℕ) (b : Buffers) (flags : List 
   verdict-four verdicts.Accepted = luns-four (t .geometry) (t .luns) (t .decoder .sequence) e _ h
   verdict-four (verdicts.Refused r) = h
 
-  pick-four : (ok : Bool) → length (pick ok (steady t e page b flags) (record { reply = reply.Refused refusal.NotUsable; target = t; buffers = b }) .target .luns) ≡ 4
+  pick-four : (ok : Bool)
+      → length (pick ok (steady t e page b flags) (record { reply = reply.Refused refusal.NotUsable; target = t; buffers = b }) .target .luns) ≡ 4
   unfolding steady
   pick-four true = verdict-four (verdict t e)
   pick-four false = h
 
   step-four : length (stepOf t e page b flags .target .luns) ≡ 4
   unfolding stepOf
-  step-four = pick-four (usable t (length page) (length (b .array)) (length (b .registers)) (length (b .counts)) (length flags))
+  step-four =
+      pick-four (usable t (length page) (length (b .array)) (length (b .registers)) (length (b .counts)) (length flags))
 
-run-four : (page flags : List ℕ) (es : List Event) (s : runs.State) → length (s .target .luns) ≡ 4 → length (after page flags es s .target .luns) ≡ 4
+run-four : (page flags : List ℕ) (es : List Event) (s : State) → length (s .target .luns) ≡ 4
+    → length (after page flags es s .target .luns) ≡ 4
 unfolding after
 run-four page flags [] s h = h
-run-four page flags (e ∷ es) s h = run-four page flags es (left (stepAt page flags s e)) (step-four (s .target) e page (s .buffers) flags h)
+run-four page flags (e ∷ es) s h =
+    run-four page flags es (left (stepAt page flags s e)) (step-four (s .target) e page (s .buffers) flags h)
 
 powered-four : (page : List ℕ) (device : ℕ) → length (poweredOf page device .luns) ≡ 4
 unfolding poweredOf
@@ -80,7 +83,7 @@ powered-four page device = refl
 pub from-power-on : FromPowerOn
 from-power-on page device array registers counts flags on before s at seen closed clear es m =
     let begun-at = poweredUp page device array registers counts in
-    let fine : Fine page flags (reachedBy page device array registers counts flags before) = record {
+    let fine : Fine page flags (after page flags before begun-at) = record {
       passes = run-fit page device array registers counts flags on before begun-at (powered-fit page device array registers counts flags on);
       four = run-four page flags before begun-at (powered-four page device);
     } in

@@ -9,22 +9,26 @@ use native.Mathlib.Decide.{ℕ-discrete, decLt}
 use Rattle.target.specs.declared.Event.{Event}
 use Rattle.target.specs.declared.Geometry.{Geometry}
 use Rattle.thm_stations.specs.Mixture.{Owned, those, serial, Mixture}
-use Rattle.thm_stations.specs.Isolated.{State, Told, outcome, next, log, end}
+use Rattle.step.specs.Step.{State}
+use Rattle.thm_demands.specs.Runs.{stepAt, after}
+use Rattle.thm_stations.specs.Isolated.{Told, next, log, end}
 use Rattle.thm_stations.proofs.Sorting.{Below, none, more, those-none, mix-below}
 use Rattle.thm_stations.proofs.Ties.{Quiet, Ties, decoderOf, Laws}
 use Rattle.thm_stations.proofs.Mixing.{Seen, mine, other, project}
 
 module _ (params flags : List ℕ) where
   -- runs of two parts
-  log-append : (s : State) (es fs : List (Owned Event)) → log params flags s (es ++ fs) ≡ log params flags s es ++ log params flags (end params flags s es) fs
-  unfolding log end
+  log-append : (s : State) (es fs : List (Owned Event))
+      → log params flags s (es ++ fs) ≡ log params flags s es ++ log params flags (end params flags s es) fs
+  unfolding log end after
   log-append s [] fs = refl
   log-append s (x ∷ es) fs =
-      ap (λ (r : List (Owned Told)). record { own = x .own; it = record { event = x .it; reply = outcome params flags s (x .it) .reply } } ∷ r)
+      ap (λ (r : List (Owned Told)). record { own = x .own; it = record { event = x .it; reply = stepAt params flags s (x .it) .reply } } ∷ r)
       (log-append (next params flags s (x .it)) es fs)
 
-  end-append : (s : State) (es fs : List (Owned Event)) → end params flags s (es ++ fs) ≡ end params flags (end params flags s es) fs
-  unfolding end
+  end-append : (s : State) (es fs : List (Owned Event))
+      → end params flags s (es ++ fs) ≡ end params flags (end params flags s es) fs
+  unfolding end after
   end-append s [] fs = refl
   end-append s (x ∷ es) fs = end-append (next params flags s (x .it)) es fs
 
@@ -36,7 +40,8 @@ module _ (params flags : List ℕ) where
 
   module _ (t : Ties) (g : Geometry) (laws : Laws params flags g t) (some : 0 < g .luns) (es : List (Owned Event)) (mix : Mixture g es) where
     -- the mixture seen from the l-th LUN, from two states between jobs that agree there
-    pub seen : (l : ℕ) (s u : State) → t .Agree l s u → Quiet (decoderOf s) → Quiet (decoderOf u) → Seen params flags t l s u es
+    pub seen : (l : ℕ) (s u : State) → t .Agree l s u → Quiet (decoderOf s) → Quiet (decoderOf u)
+        → Seen params flags t l s u es
     seen l s u a q r = elim (ℕ-discrete 0 l) [
       | yes e ↦ project params flags t g laws l mix some s u a (mine e (laws .rests q r))
       | no e ↦ project params flags t g laws l mix some s u a (other (λ z. e (sym z)) (laws .rests q q) r)
@@ -64,16 +69,16 @@ module _ (params flags : List ℕ) where
           }
 
       served : (n : ℕ) → Served n
-      unfolding serial log end
+      unfolding serial log end after
       served zero = record { sorted = refl; quiet = q; below = λ l h. absurd (not-suc-le-zero h); above = λ l h. laws .itself l a }
       served (suc n) = one-more n (served n)
 
       -- a LUN that does not exist stays as it was
       beyond : (l : ℕ) → g .luns ≤ l → t .Agree l (end params flags s es) s
-      unfolding end
+      unfolding end after
       beyond l h =
           let p : Seen params flags t l s s es = seen l s s (laws .itself l a) q q in
-          rw (those-none l (mix-below mix some) h, end) at (p .agree)
+          rw (those-none l (mix-below mix some) h, end, after) at (p .agree)
 
       pub sorted-answers : log params flags s (serial (g .luns) es) ≡ serial (g .luns) (log params flags s es)
       sorted-answers = served (g .luns) .sorted

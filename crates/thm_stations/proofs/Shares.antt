@@ -8,6 +8,7 @@ use native.Mathlib.Omega.{arith}
 use lib.Arith.{digits-lt}
 use Rattle.slices.proofs.Splice.{piece}
 use Rattle.target.specs.Address.{pageOf, blockOf, lunOf, blockExists, rowExists}
+use Rattle.target.specs.Sizes.{pageSize}
 use Rattle.target.specs.declared.Geometry.{Geometry}
 use Rattle.target.specs.declared.Row.{Row}
 use Rattle.step.specs.Buffers.{blockIndex, pageIndex}
@@ -35,31 +36,32 @@ module _ (g : Geometry) (r : Row) where
   block-low = rw (block-parts g r) (nested-low (lunOf g r) (g .blocks) (blockOf g r) (g .pages))
 
   -- a block's bytes
-  pub block-bytes-low : lunOf g r * lunBytes g ≤ blockIndex g r * g .pages * g .page
+  pub block-bytes-low : lunOf g r * lunBytes g ≤ blockIndex g r * g .pages * pageSize g
   block-bytes-low =
-      rw (mul-assoc (blockIndex g r) (g .pages) (g .page), mul-assoc (g .blocks) (g .pages) (g .page), block-parts g r)
-      (nested-low (lunOf g r) (g .blocks) (blockOf g r) (g .pages * g .page))
+      rw (mul-assoc (blockIndex g r) (g .pages) (pageSize g), mul-assoc (g .blocks) (g .pages) (pageSize g), block-parts g r)
+      (nested-low (lunOf g r) (g .blocks) (blockOf g r) (g .pages * pageSize g))
 
   -- a page's count
   pub page-place : pageIndex g r ≡ lunOf g r * lunPages g + pageWithin
   unfolding pageWithin
-  page-place = rw (page-parts g r, block-parts g r, split (lunOf g r) (g .blocks) (blockOf g r) (g .pages)) (add-assoc _ _ _)
+  page-place =
+      rw (page-parts g r, block-parts g r, split (lunOf g r) (g .blocks) (blockOf g r) (g .pages)) (add-assoc _ _ _)
 
   pub page-low : lunOf g r * lunPages g ≤ pageIndex g r
   page-low = omega (arith, page-place)
 
   -- a page's bytes
-  pub page-bytes-low : lunOf g r * lunBytes g ≤ pageIndex g r * g .page
-  page-bytes-low = rw page-place (nested-low (lunOf g r) (lunPages g) pageWithin (g .page))
+  pub page-bytes-low : lunOf g r * lunBytes g ≤ pageIndex g r * pageSize g
+  page-bytes-low = rw page-place (nested-low (lunOf g r) (lunPages g) pageWithin (pageSize g))
 
   module _ (there : blockExists g r ≡ true) where
     pub block-high : blockIndex g r * g .pages + g .pages ≤ lunOf g r * lunPages g + lunPages g
     block-high = rw (block-parts g r) (nested-high (lunOf g r) (g .blocks) (blockOf g r) (g .pages) (block-there g r there .block))
 
-    pub block-bytes-high : blockIndex g r * g .pages * g .page + g .pages * g .page ≤ lunOf g r * lunBytes g + lunBytes g
+    pub block-bytes-high : blockIndex g r * g .pages * pageSize g + g .pages * pageSize g ≤ lunOf g r * lunBytes g + lunBytes g
     block-bytes-high =
-        rw (mul-assoc (blockIndex g r) (g .pages) (g .page), mul-assoc (g .blocks) (g .pages) (g .page), block-parts g r)
-        (nested-high (lunOf g r) (g .blocks) (blockOf g r) (g .pages * g .page) (block-there g r there .block))
+        rw (mul-assoc (blockIndex g r) (g .pages) (pageSize g), mul-assoc (g .blocks) (g .pages) (pageSize g), block-parts g r)
+        (nested-high (lunOf g r) (g .blocks) (blockOf g r) (g .pages * pageSize g) (block-there g r there .block))
 
   module _ (there : rowExists g r ≡ true) where
     pub page-within : pageWithin < lunPages g
@@ -69,5 +71,5 @@ module _ (g : Geometry) (r : Row) where
     pub page-high : pageIndex g r + 1 ≤ lunOf g r * lunPages g + lunPages g
     page-high = omega (arith, page-place, page-within)
 
-    pub page-bytes-high : pageIndex g r * g .page + g .page ≤ lunOf g r * lunBytes g + lunBytes g
-    page-bytes-high = rw page-place (nested-high (lunOf g r) (lunPages g) pageWithin (g .page) page-within)
+    pub page-bytes-high : pageIndex g r * pageSize g + pageSize g ≤ lunOf g r * lunBytes g + lunBytes g
+    page-bytes-high = rw page-place (nested-high (lunOf g r) (lunPages g) pageWithin (pageSize g) page-within)

@@ -53,7 +53,8 @@ those-apart l k (x ∷ xs) ne = elim (ℕ-discrete (x .own) k) [
 serial-none : {A : Type 0} (n l : ℕ) (xs : List (Owned A)) → n ≤ l → those l (serial n xs) ≡ []
 unfolding serial those
 serial-none zero l xs h = refl
-serial-none (suc n) l xs h = those-append l (serial n xs) (those n xs) ∙ rw (serial-none n l xs (omega arith)) (those-apart l n xs (λ q. omega arith))
+serial-none (suc n) l xs h =
+    those-append l (serial n xs) (those n xs) ∙ rw (serial-none n l xs (omega arith)) (those-apart l n xs (λ q. omega arith))
 
 serial-those : {A : Type 0} (n l : ℕ) (xs : List (Owned A)) → l < n → those l (serial n xs) ≡ those l xs
 unfolding serial
@@ -69,7 +70,8 @@ unfolding serial
 serial-miss zero x xs h = refl
 serial-miss (suc n) x xs h = rw (serial-miss n x xs (omega arith), those-miss n x xs (λ q. omega arith))
 
-serial-hit : {A : Type 0} (n : ℕ) (x : Owned A) (xs : List (Owned A)) → x .own < n → length (serial n (x ∷ xs)) ≡ suc (length (serial n xs))
+serial-hit : {A : Type 0} (n : ℕ) (x : Owned A) (xs : List (Owned A)) → x .own < n
+    → length (serial n (x ∷ xs)) ≡ suc (length (serial n xs))
 unfolding serial
 serial-hit zero x xs h = absurd (not-suc-le-zero h)
 serial-hit (suc n) x xs h = elim (ℕ-discrete (x .own) n) [
@@ -107,7 +109,8 @@ reordered n xs b = record {
   all = serial-length b;
 }
 
-pub mix-below : {g : Geometry} {o : ℕ} {cs : List Cycle} {es : List (Owned Event)} → Mix g o cs es → o < g .luns → Below (g .luns) es
+pub mix-below : {g : Geometry} {o : ℕ} {cs : List Cycle} {es : List (Owned Event)} → Mix g o cs es → o < g .luns
+    → Below (g .luns) es
 mix-below over there = none
 mix-below (start j jt m) there = mix-below m jt
 mix-below (cycle m) there = more there (mix-below m there)

@@ -8,7 +8,9 @@ use Rattle.target.specs.declared.Decoder.{Decoder}
 use Rattle.target.specs.declared.Geometry.{Geometry}
 use Rattle.target.specs.declared.Sequence.the-variants.{Idle}
 use Rattle.thm_stations.specs.Jobs.{Cycle, eventOf, finishOf, Job, cycles, lunNamed}
-use Rattle.thm_stations.specs.Isolated.{State, outcome, next}
+use Rattle.step.specs.Step.{State}
+use Rattle.thm_demands.specs.Runs.{stepAt}
+use Rattle.thm_stations.specs.Isolated.{next}
 
 -- no sequence is open
 abbrev pub Quiet : Decoder → Type 0
@@ -31,16 +33,22 @@ pub record Laws (params flags : List ℕ) (g : Geometry) (t : Ties) : Type 0 whe
   pub chain : {l : ℕ} {s u w : State} → t .Agree l s u → t .Agree l u w → t .Agree l s w
   -- an event of the l-th LUN, seen by that LUN and by another
   pub turn : {l : ℕ} {s u : State} {e : Event} → t .Moves l s u e → t .Moves l u s e
-  pub answers : {l : ℕ} {s u : State} {e : Event} → t .Moves l s u e → outcome params flags s e .reply ≡ outcome params flags u e .reply
-  pub both : {l : ℕ} {s u : State} {e : Event} → t .Agree l s u → t .Moves l s u e → t .Agree l (next params flags s e) (next params flags u e)
-  pub apart : {k l : ℕ} {s u w : State} {e : Event} → (k ≡ l → ⊥) → t .Agree k s w → t .Moves l s u e → t .Agree k (next params flags s e) w
+  pub answers : {l : ℕ} {s u : State} {e : Event} → t .Moves l s u e
+      → stepAt params flags s e .reply ≡ stepAt params flags u e .reply
+  pub both : {l : ℕ} {s u : State} {e : Event} → t .Agree l s u → t .Moves l s u e
+      → t .Agree l (next params flags s e) (next params flags u e)
+  pub apart : {k l : ℕ} {s u w : State} {e : Event} → (k ≡ l → ⊥) → t .Agree k s w → t .Moves l s u e
+      → t .Agree k (next params flags s e) w
   -- a cycle of a job
-  pub cycle : {l : ℕ} {c : Cycle} {cs : List Cycle} {s u : State} → l < g .luns → t .Agree l s u → t .Alike l (c ∷ cs) (decoderOf s) (decoderOf u) → t .Moves l s u (eventOf c)
-  pub goes : {l : ℕ} {c : Cycle} {cs : List Cycle} {s u : State} → l < g .luns → t .Agree l s u → t .Alike l (c ∷ cs) (decoderOf s) (decoderOf u)
+  pub cycle : {l : ℕ} {c : Cycle} {cs : List Cycle} {s u : State} → l < g .luns → t .Agree l s u
+      → t .Alike l (c ∷ cs) (decoderOf s) (decoderOf u) → t .Moves l s u (eventOf c)
+  pub goes : {l : ℕ} {c : Cycle} {cs : List Cycle} {s u : State} → l < g .luns → t .Agree l s u
+      → t .Alike l (c ∷ cs) (decoderOf s) (decoderOf u)
       → t .Alike l cs (decoderOf (next params flags s (eventOf c))) (decoderOf (next params flags u (eventOf c)))
   -- a finish event
   pub finish : {l : ℕ} {s u : State} → l < g .luns → t .Agree l s u → t .Moves l s u (finishOf l)
-  pub finish-decoder : {l : ℕ} {s u : State} (f : ℕ) → t .Agree l s u → decoderOf (next params flags s (finishOf f)) ≡ decoderOf s
+  pub finish-decoder : {l : ℕ} {s u : State} (f : ℕ) → t .Agree l s u
+      → decoderOf (next params flags s (finishOf f)) ≡ decoderOf s
   -- a job from its start, and its end
   pub begins : (j : Job) {d e : Decoder} → Quiet d → Quiet e → t .Alike (lunNamed g j) (cycles j) d e
   pub rests : {l : ℕ} {d e : Decoder} → Quiet d → Quiet e → t .Alike l [] d e

@@ -33,7 +33,7 @@ pub record RowBytes : Type 0 where
   pub mid : ℕ
   pub high : ℕ
 
--- what may stand between a program's row and its 10h: a data byte, or an 85h move
+-- what may stand between a program's row and its last command: a data byte, or an 85h move
 pub data Piece : Type 0 where
   byte : ℕ → Piece
   move : ColumnBytes → Piece
@@ -52,17 +52,18 @@ two c cs = address (c .low) ∷ address (c .high) ∷ cs
 abbrev pub three : RowBytes → List Cycle → List Cycle
 three r cs = address (r .low) ∷ address (r .mid) ∷ address (r .high) ∷ cs
 
-abbrev pub pieces : List Piece → List Cycle
-pieces [] = command 0x10 ∷ []
-pieces (byte v ∷ ps) = dataIn v ∷ pieces ps
-pieces (move c ∷ ps) = command 0x85 ∷ two c (pieces ps)
+-- a program's data and moves, and the command that closes it
+abbrev pub pieces : ℕ → List Piece → List Cycle
+pieces last [] = command last ∷ []
+pieces last (byte v ∷ ps) = dataIn v ∷ pieces last ps
+pieces last (move c ∷ ps) = command 0x85 ∷ two c (pieces last ps)
 
 -- read: 00h, five addresses, 30h; read-out: 06h, five, E0h, any number of data out; program: 80h, five, data and 85h moves with
 -- two cycles each, 10h; erase: 60h, three, D0h; status: 78h, three, any number of data out
 unfoldable pub cycles : Job → List Cycle
 cycles (read c r) = command 0x00 ∷ two c (three r (command 0x30 ∷ []))
 cycles (readOut c r n) = command 0x06 ∷ two c (three r (command 0xe0 ∷ replicate n dataOut))
-cycles (program c r ps) = command 0x80 ∷ two c (three r (pieces ps))
+cycles (program c r ps) = command 0x80 ∷ two c (three r (pieces 0x10 ps))
 cycles (erase r) = command 0x60 ∷ three r (command 0xd0 ∷ [])
 cycles (status r n) = command 0x78 ∷ three r (replicate n dataOut)
 

@@ -14,13 +14,16 @@ pub record Owned (A : Type 0) : Type 0 where
   pub own : ℕ
   pub it : A
 
--- `Mix g o cs es`: a job of LUN o is under way and cs are its cycles still to come (none: no job is under way); the events es
--- finish it and go on with whole jobs, each naming an existing LUN, and finish events of existing LUNs stand anywhere
+-- `Mix g o cs es`: a job of LUN o is under way and cs are its cycles still to come (none: no job is under way); the events
+-- es finish it and go on with whole jobs, each naming an existing LUN, and finish events of existing LUNs stand anywhere
 pub data Mix (g : Geometry) : ℕ → List Cycle → List (Owned Event) → Type 0 where
   over : {o : ℕ} → Mix g o [] []
-  start : {o : ℕ} {es : List (Owned Event)} (j : Job) → lunNamed g j < g .luns → Mix g (lunNamed g j) (cycles j) es → Mix g o [] es
-  cycle : {o : ℕ} {c : Cycle} {cs : List Cycle} {es : List (Owned Event)} → Mix g o cs es → Mix g o (c ∷ cs) (record { own = o; it = eventOf c } ∷ es)
-  finish : {o : ℕ} {cs : List Cycle} {es : List (Owned Event)} (l : ℕ) → l < g .luns → Mix g o cs es → Mix g o cs (record { own = l; it = finishOf l } ∷ es)
+  start : {o : ℕ} {es : List (Owned Event)} (j : Job)
+      → lunNamed g j < g .luns → Mix g (lunNamed g j) (cycles j) es → Mix g o [] es
+  cycle : {o : ℕ} {c : Cycle} {cs : List Cycle} {es : List (Owned Event)} → Mix g o cs es
+      → Mix g o (c ∷ cs) (record { own = o; it = eventOf c } ∷ es)
+  finish : {o : ℕ} {cs : List Cycle} {es : List (Owned Event)} (l : ℕ) → l < g .luns → Mix g o cs es
+      → Mix g o cs (record { own = l; it = finishOf l } ∷ es)
 
 -- a mixture: no job is under way at its start, and each is whole at its end
 abbrev pub Mixture : Geometry → List (Owned Event) → Type 0

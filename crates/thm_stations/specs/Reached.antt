@@ -9,21 +9,15 @@ use Rattle.target.specs.declared.Event.{Event}
 use Rattle.target.specs.declared.Sequence.the-variants.{Idle}
 use Rattle.power.specs.Power.{powerAnswer}
 use Rattle.power.specs.declared.PowerAnswer.the-variants.{Accepted}
+use Rattle.step.specs.Step.{State}
 use Rattle.thm_demands.specs.Runs.{after, poweredUp}
 use Rattle.thm_stations.specs.Mixture.{Owned, Mixture}
-use Rattle.thm_stations.specs.Isolated.{State, Isolated}
-
--- where a run from an accepted power-on stands after these events
-abbrev pub reachedBy : List ℕ → ℕ → List ℕ → List ℕ → List ℕ → List ℕ → List Event → State
-reachedBy page device array registers counts flags before = record {
-  target = after page flags before (poweredUp page device array registers counts) .target;
-  buffers = after page flags before (poweredUp page device array registers counts) .buffers;
-}
+use Rattle.thm_stations.specs.Isolated.{Isolated}
 
 abbrev pub FromPowerOn : Type 0
 FromPowerOn =
     (page : List ℕ) (device : ℕ) (array registers counts flags : List ℕ)
     → powerAnswer page (length array) (length registers) counts flags ≡ Accepted
-    → (before : List Event) (s : State) → s ≡ reachedBy page device array registers counts flags before
+    → (before : List Event) (s : State) → s ≡ after page flags before (poweredUp page device array registers counts)
     → s .target .seen ≡ true → s .target .decoder .sequence ≡ Idle → s .target .clear ≡ true
     → (es : List (Owned Event)) → Mixture (s .target .geometry) es → Isolated page flags s es

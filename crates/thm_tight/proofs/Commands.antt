@@ -1,6 +1,5 @@
 -- Laws of the command list that the ways go by. Each is one test, computed at every first command of the list.
 --     fresh        a first command is accepted after FFh by a part that offers everything
---     named        its byte names it
 --     no-output    one that takes addresses shows nothing before them
 --     waits-some   one that waits for a second command takes a column or a row
 -- Assumes nothing.
@@ -13,7 +12,6 @@ use Rattle.target.specs.Words.{bitOf}
 use Rattle.target.specs.Commands.{rowOf, byteOf, cyclesOf, thenOf, takesColumn, takesRow, isSecond, waitsSecond, firstOf, offered, secondRow, classOf, isFirst, isKnown}
 use Rattle.target.specs.declared.Words.{Words}
 use Rattle.target.specs.declared.First.{First}
-use Rattle.target.specs.declared.First.the-variants.{Read, ChangeColumn, ChangeColumnEnhanced, Erase, Status, StatusEnhanced, Program, ReadId, ParameterPage, GetFeatures, SetFeatures}
 use Rattle.target.specs.declared.Output.the-variants as output
 use Rattle.target.specs.declared.commands.Then.{Then}
 use Rattle.target.specs.declared.commands.Then.the-variants as then
@@ -33,20 +31,6 @@ fresh-test f = each-first (λ (x : First). isKnown (classOf (byteOf x)) && offer
 
 pub fresh : (f : First) → (isKnown (classOf (byteOf f)) ≡ true) × (offered every (byteOf f) ≡ true) × (isFirst (classOf (byteOf f)) ≡ true) × (not (eqb (byteOf f) 0xff) ≡ true) × (leb (byteOf f) 255 ≡ true)
 fresh f = both5 (isKnown (classOf (byteOf f))) (offered every (byteOf f)) (isFirst (classOf (byteOf f))) (not (eqb (byteOf f) 0xff)) (leb (byteOf f) 255) (fresh-test f)
-
-pub named : (f : First) → firstOf (byteOf f) ≡ first.Found f
-unfolding rowOf firstOf
-named Read = refl
-named ChangeColumn = refl
-named ChangeColumnEnhanced = refl
-named Erase = refl
-named Status = refl
-named StatusEnhanced = refl
-named Program = refl
-named ReadId = refl
-named ParameterPage = refl
-named GetFeatures = refl
-named SetFeatures = refl
 
 -- where a is so, b is
 modus : (a b : Bool) → (not a || b) ≡ true → a ≡ true → b ≡ true

@@ -33,12 +33,13 @@ use Rattle.target.specs.declared.commands.FirstFound.{FirstFound}
 use Rattle.target.specs.declared.commands.FirstFound.the-variants as first
 use Rattle.target.specs.declared.views.Given.{Given}
 use Rattle.target.specs.declared.views.Given.the-variants as given
+use Rattle.target.proofs.Firsts.{named}
 use Rattle.rules.specs.Rules.{unknown, beforeReset, fits, misplaced, beyond, outOfRange, namesWorking, outputWorks, lunWorks, workFor, othersWorkFor, othersBusy, isGuarded, lineLow, dataEnded, outputEnded, pastEnd, unoffered, notOffered}
 use Rattle.rules.specs.Rules as rules
 use Rattle.rules.proofs.ByKind.{event, command-verdict, address-verdict, in-verdict, out-verdict}
 use Rattle.effects.specs.Effects.{started, addressed, filled, sequenceAfter, firstOutput, addressedOutput, advanced, outputAfter, lunsAfter, rowSelects, selectedAfter, clearSet, clearAfter, highAfter, targetAfter}
 use Rattle.step.specs.Buffers.{findings}
-use Rattle.thm_tight.proofs.Commands.{every, fresh, named}
+use Rattle.thm_tight.proofs.Commands.{every, fresh}
 use Rattle.thm_tight.proofs.Part.{Part, Fine, flagsOf}
 use Rattle.thm_tight.proofs.Ways.{Way, at-power, onward}
 

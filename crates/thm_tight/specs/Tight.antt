@@ -1,5 +1,5 @@
--- Rule 13's record part is what document 01 says of it ("Refusal numbers"): it refuses where the target is not powered "or a
--- number in the record, taken by itself, is one that no run with that geometry gives it". Proved in proofs/.
+-- Rule 13's record part is what document 01 says of it ("Refusal numbers"): it refuses where the target is not powered
+-- "or a number in the record, taken by itself, is one that no run with that geometry gives it". Proved in proofs/.
 --     Tight       each number of a record that it lets pass is given by a run
 --     ByItself    and a record each of whose numbers is given by some run passes, however they stand together
 use mathlib.Core.Path.{_≡_}
@@ -30,8 +30,8 @@ unfoldable pub byteEvents : List Event → Bool
 byteEvents [] = true
 byteEvents (e ∷ es) = leb (e .kind) 255 && leb (e .value) 255 && byteEvents es
 
--- P holds of the target after some events from an accepted power-on with geometry g; what is lent is bytes (counts and flags
--- are where power-on accepts them)
+-- P holds of the target after some events from an accepted power-on with geometry g; what is lent is bytes (counts and
+-- flags are where power-on accepts them)
 pub record Reached (g : Geometry) (P : Target → Type 0) : Type 0 where
   pub page : List ℕ
   pub device : ℕ
@@ -74,7 +74,9 @@ SequenceGiven g (Rows k) =
     × Leaves {A = First × ℕ} g Rows (λ j. (j .first, j .low)) k
     × Leaves {A = First × ℕ} g Rows (λ j. (j .first, j .mid)) k
 SequenceGiven g (Single f) = Stands g (Single f)
-SequenceGiven g (Due k) = Leaves {A = First × Column} g Due (λ j. (j .first, j .column)) k × Leaves {A = First × Row} g Due (λ j. (j .first, j .row)) k
+SequenceGiven g (Due k) =
+    Leaves {A = First × Column} g Due (λ j. (j .first, j .column)) k
+    × Leaves {A = First × Row} g Due (λ j. (j .first, j .row)) k
 SequenceGiven g (Filling k) = Leaves g Filling (λ j. j .row) k × Leaves g Filling (λ j. j .at) k
 SequenceGiven g (Moving k) =
     Leaves g Moving (λ j. j .row) k
@@ -92,7 +94,8 @@ OutputGiven g (output.Ids at) = Shows g (output.Ids at)
 OutputGiven g (output.Signature at) = Shows g (output.Signature at)
 OutputGiven g (output.Feature at) = Shows g (output.Feature at)
 
--- each number of a record is given by a run with its geometry, data and spare bytes among its sizes; there are four LUN records
+-- each number of a record is given by a run with its geometry, data and spare bytes among its sizes; there are four LUN
+-- records
 pub record Given (t : Target) : Type 0 where
   pub geometry : Reached (t .geometry) (λ u. u .geometry ≡ t .geometry)
   pub features : Reached (t .geometry) (λ u. u .words .features ≡ t .words .features)

@@ -24,7 +24,7 @@ slice-read-dst : tie.Need-slice-read-dst Inv-loop μ-loop
 slice-read-dst c = omega arith
 
 shared-slice-read-dst : tie.Need-shared-slice-read-dst Inv-loop μ-loop
-shared-slice-read-dst c = omega (arith, c .before .before .before .loop .inv .same)
+shared-slice-read-dst c = omega (arith, c .before .before .before .loop .inv .as-long)
 
 slice-write-dst : tie.Need-slice-write-dst Inv-loop μ-loop
 slice-write-dst c = omega arith
@@ -33,7 +33,7 @@ add-i : tie.Need-add-i Inv-loop μ-loop
 add-i c = omega arith
 
 loop-less : tie.Need-loop-less Inv-loop μ-loop
-loop-less c = omega (arith, c .before .before .before .loop .inv .same)
+loop-less c = omega (arith, c .before .before .before .loop .inv .as-long)
 
 loop-again : tie.Need-loop-again Inv-loop μ-loop
 loop-again c =
@@ -42,13 +42,13 @@ loop-again c =
     let old = at .before .args .dst .now in
     let src = at .before .args .src .now in
     let test = c .before .before .loop-test .taken in
-    let below : i < length old = omega (arith, at .loop .inv .same) in
+    let below : i < length old = omega (arith, at .loop .inv .as-long) in
     sweep-more (length-and old src) (at .loop .inv) _ test
     (ap (λ (x : ℕ). bitAnd x (getD src i 0)) (sweep-read (length-and old src) (at .loop .inv) test)
     ∙ sym (getD-and old src i below (omega arith)))
 
 same-length : tie.Need-same-length Inv-loop μ-loop
-same-length c = c .before .loop .inv .same
+same-length c = c .before .loop .inv .as-long
 
 returns : tie.Need-returns Inv-loop μ-loop
 returns c =

@@ -24,16 +24,16 @@ add-i : tie.Need-add-i Inv-loop μ-loop
 add-i c = omega arith
 
 loop-less : tie.Need-loop-less Inv-loop μ-loop
-loop-less c = omega (arith, c .before .loop .inv .same)
+loop-less c = omega (arith, c .before .loop .inv .as-long)
 
 loop-again : tie.Need-loop-again Inv-loop μ-loop
 loop-again c =
     let i = c .before .loop .i in
-    let below : i < length (c .before .before .args .dst .now) = omega (arith, c .before .loop .inv .same) in
+    let below : i < length (c .before .before .args .dst .now) = omega (arith, c .before .loop .inv .as-long) in
     sweep-more (length-replicate _ _) (c .before .loop .inv) _ (c .loop-test .taken) (sym (getD-replicate _ _ _ _ below))
 
 same-length : tie.Need-same-length Inv-loop μ-loop
-same-length c = c .before .loop .inv .same
+same-length c = c .before .loop .inv .as-long
 
 returns : tie.Need-returns Inv-loop μ-loop
 returns c = sweep-end (length-replicate _ _) (c .before .loop .inv) (c .loop-test .left)

@@ -8,11 +8,11 @@ use Rattle.test_ways.proofs.lay_trace.Statement.{statement}
 use Rattle.test_ways.proofs.lay_trace.Tie as tie
 
 abbrev Inv-loop : tie.InvT-loop
-Inv-loop records₀ x₀ i₀ records x i =
+Inv-loop records₀ script x₀ i₀ records x i =
     length records ≡ length records₀
 
 abbrev μ-loop : tie.MeasureT-loop
-μ-loop records₀ x₀ i₀ records x i =
+μ-loop records₀ script x₀ i₀ records x i =
     length records₀ - i
 
 loop-holds : tie.Need-loop-holds Inv-loop μ-loop

@@ -1,0 +1,2 @@
+// `nib demo`.
+pub mod demo;

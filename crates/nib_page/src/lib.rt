@@ -1,0 +1,2 @@
+// `nib page`.
+pub mod pages;

@@ -1,0 +1,2 @@
+// `nib run` and `nib explain`.
+pub mod running;

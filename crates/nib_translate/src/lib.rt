@@ -1,0 +1,2 @@
+// `nib text` and `nib text -d`.
+pub mod texts;

@@ -1,0 +1,199 @@
+// Lines: all traces of one part and one kind.
+use power::power_number;
+use power::unpowered;
+use target::Target;
+use test_judge_parts::field;
+use test_judge_parts::knob;
+use test_judge_parts::parts::fill_buffers;
+use test_judge_parts::parts::load_knobs;
+use test_judge_parts::parts::load_part;
+use test_judge_parts::parts::make_page;
+use test_judge_parts::place;
+use test_judge_parts::random::absorb_front;
+use test_judge_parts::random::below;
+use test_judge_parts::random::chance;
+use test_judge_parts::random::fill_random;
+use test_judge_parts::random::fill_with;
+use test_judge_parts::random::seed_line;
+use test_judge_parts::show::show;
+use test_judge_parts::state::Array;
+use test_judge_parts::state::Bytes;
+use test_judge_parts::state::Page;
+use test_judge_parts::state::Registers;
+use test_judge_parts::state::State;
+use test_judge_parts::state::fetch;
+use test_judge_parts::state::store;
+use test_judge_runs::running::absorb_buffers;
+use test_judge_runs::running::powered;
+use test_judge_runs::running::run_trace;
+use test_judge_traces::traces::make_trace;
+use test_kit::numbers::at_most;
+use test_kit::numbers::times;
+
+// The first `n` bytes, each at most `most`.
+fn mend(s: &mut Bytes, n: usize, most: usize) {
+    let mut i: usize = 0;
+    while i < n {
+        let b = fetch(s, i);
+        store(s, i, at_most(b, most));
+        i += 1;
+    }
+}
+
+fn change_one(g: &mut State, counts: &mut Bytes, flags: &mut Bytes) {
+    let n = g[place::COUNTS_LEN];
+    let at = below(g, n);
+    let value = below(g, 256);
+    store(counts, at, value);
+    let n = g[place::FLAGS_LEN];
+    let at = below(g, n);
+    let bad = below(g, 2);
+    let value = times(bad, below(g, 256));
+    store(flags, at, value);
+}
+
+// What power-on looked at may hold anything later.
+fn change_contents(
+    g: &mut State,
+    kind: usize,
+    page: &mut Page,
+    counts: &mut Bytes,
+    flags: &mut Bytes,
+) {
+    if (kind == 5) | (kind == 15) {
+        fill_random(g, page, 256);
+    }
+    if kind == 14 {
+        change_one(g, counts, flags);
+        change_one(g, counts, flags);
+        change_one(g, counts, flags);
+        change_one(g, counts, flags);
+    }
+}
+
+fn power_up(
+    g: &mut State,
+    kind: usize,
+    page: &mut Page,
+    array: &mut Array,
+    registers: &mut Registers,
+    counts: &mut Bytes,
+    flags: &mut Bytes,
+) -> Target {
+    mend(counts, g[place::COUNTS_LEN], g[field::PROGRAMS]);
+    mend(flags, g[place::FLAGS_LEN], 1);
+    make_page(g, page);
+    let p = powered(g, page, array, registers, counts, flags);
+    let answer = p.answer;
+    let n = g[place::REGISTERS_LEN];
+    absorb_front(g, registers, n);
+    show(g, b" power ", power_number(answer) as usize, 0, 0, 0);
+    g[place::BUSY] = 0;
+    g[place::SELECTED] = 0;
+    change_contents(g, kind, page, counts, flags);
+    p.target
+}
+
+// Trace number 'i' of a line.
+fn one_trace(
+    t: Target,
+    g: &mut State,
+    kind: usize,
+    i: usize,
+    records: &mut Bytes,
+    replies: &mut Bytes,
+    page: &mut Page,
+    array: &mut Array,
+    registers: &mut Registers,
+    counts: &mut Bytes,
+    flags: &mut Bytes,
+) -> Target {
+    let fresh = chance(g, 3) | (i == 0) | (kind == 9);
+    g[place::TRACE] = i;
+    let n = if fresh {
+        power_up(g, kind, page, array, registers, counts, flags)
+    } else {
+        t
+    };
+    make_trace(g, records, kind, fresh);
+    let n = run_trace(
+        n,
+        g,
+        records,
+        replies,
+        page,
+        array,
+        registers,
+        counts,
+        flags,
+    );
+    absorb_buffers(g, array, registers, counts, flags);
+    show(g, b" buffers ", 0, 0, 0, 0);
+    n
+}
+
+fn all_traces(
+    g: &mut State,
+    kind: usize,
+    traces: usize,
+    records: &mut Bytes,
+    replies: &mut Bytes,
+    page: &mut Page,
+    array: &mut Array,
+    registers: &mut Registers,
+    counts: &mut Bytes,
+    flags: &mut Bytes,
+) {
+    let mut t = unpowered();
+    let mut i: usize = 0;
+    while i < traces {
+        t = one_trace(
+            t,
+            g,
+            kind,
+            i,
+            records,
+            replies,
+            page,
+            array,
+            registers,
+            counts,
+            flags,
+        );
+        i += 1;
+    }
+}
+
+pub fn run_line(
+    g: &mut State,
+    seed: usize,
+    count: usize,
+    line: usize,
+    records: &mut Bytes,
+    replies: &mut Bytes,
+    page: &mut Page,
+    array: &mut Array,
+    registers: &mut Registers,
+    counts: &mut Bytes,
+    flags: &mut Bytes,
+) {
+    let kind = line % 16;
+    fill_with(page, 260, 0);
+    seed_line(g, seed, line);
+    load_part(g, line / 16);
+    load_knobs(g, kind);
+    fill_buffers(g, array, registers, counts, flags);
+    let traces = times(g[knob::TRACES], count);
+    all_traces(
+        g,
+        kind,
+        traces,
+        records,
+        replies,
+        page,
+        array,
+        registers,
+        counts,
+        flags,
+    );
+}

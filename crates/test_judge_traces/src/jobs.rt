@@ -1,0 +1,349 @@
+// Jobs: whole command sequences.
+use crate::records::address;
+use crate::records::begin_work;
+use crate::records::command;
+use crate::records::cycle;
+use crate::records::is_busy;
+use crate::records::make_all_ready;
+use crate::records::make_ready;
+use crate::records::pick_column;
+use crate::records::pick_length;
+use crate::records::pick_lun;
+use crate::records::pick_row;
+use crate::records::put;
+use crate::records::put_column;
+use crate::records::put_finish;
+use crate::records::put_reset;
+use crate::records::put_row;
+use crate::records::take_out;
+use test_judge_parts::field;
+use test_judge_parts::knob;
+use test_judge_parts::place;
+use test_judge_parts::random::below;
+use test_judge_parts::random::half;
+use test_judge_parts::random::sometimes;
+use test_judge_parts::state::Bytes;
+use test_judge_parts::state::State;
+use test_judge_parts::state::number;
+use test_kit::numbers::add;
+use test_kit::numbers::times;
+
+// Data out, as much as there may be from a column on.
+fn take_from(g: &mut State, records: &mut Bytes, column: usize) {
+    let n = pick_length(g, column);
+    take_out(g, records, n);
+}
+
+fn read_page(g: &mut State, records: &mut Bytes, lun: usize, row: usize) {
+    let column = pick_column(g);
+    make_ready(g, records, lun);
+    command(g, records, 0x00);
+    put_column(g, records, column);
+    put_row(g, records, lun, row);
+    command(g, records, 0x30);
+    begin_work(g, records, lun);
+    if half(g) {
+        take_from(g, records, column);
+    }
+}
+
+fn job_read(g: &mut State, records: &mut Bytes) {
+    let lun = pick_lun(g);
+    let row = pick_row(g, lun);
+    read_page(g, records, lun, row);
+}
+
+fn job_lun_out(g: &mut State, records: &mut Bytes) {
+    let lun = pick_lun(g);
+    let row = pick_row(g, lun);
+    let column = pick_column(g);
+    make_ready(g, records, lun);
+    command(g, records, 0x06);
+    put_column(g, records, column);
+    put_row(g, records, lun, row);
+    command(g, records, 0xe0);
+    take_from(g, records, column);
+}
+
+fn job_out(g: &mut State, records: &mut Bytes) {
+    let column = pick_column(g);
+    let lun = g[place::SELECTED];
+    make_ready(g, records, lun);
+    command(g, records, 0x05);
+    put_column(g, records, column);
+    command(g, records, 0xe0);
+    take_from(g, records, column);
+}
+
+fn give_data(g: &mut State, records: &mut Bytes, column: usize) {
+    let n = pick_length(g, column);
+    let mut i: usize = 0;
+    while i < n {
+        let value = below(g, 256);
+        cycle(g, records, 2, value);
+        i += 1;
+    }
+}
+
+fn move_data(g: &mut State, records: &mut Bytes) {
+    let column = pick_column(g);
+    command(g, records, 0x85);
+    put_column(g, records, column);
+    give_data(g, records, column);
+}
+
+fn program_page(g: &mut State, records: &mut Bytes, lun: usize, row: usize) {
+    let column = pick_column(g);
+    let moves = below(g, 3);
+    make_ready(g, records, lun);
+    command(g, records, 0x80);
+    put_column(g, records, column);
+    put_row(g, records, lun, row);
+    give_data(g, records, column);
+    if 0 < moves {
+        move_data(g, records);
+    }
+    if 1 < moves {
+        move_data(g, records);
+    }
+    command(g, records, 0x10);
+    begin_work(g, records, lun);
+}
+
+fn job_program(g: &mut State, records: &mut Bytes) {
+    let lun = pick_lun(g);
+    let row = pick_row(g, lun);
+    program_page(g, records, lun, row);
+}
+
+fn erase_block(g: &mut State, records: &mut Bytes, lun: usize, row: usize) {
+    make_ready(g, records, lun);
+    command(g, records, 0x60);
+    put_row(g, records, lun, row);
+    command(g, records, 0xd0);
+    begin_work(g, records, lun);
+}
+
+fn job_erase(g: &mut State, records: &mut Bytes) {
+    let lun = pick_lun(g);
+    let row = pick_row(g, lun);
+    erase_block(g, records, lun, row);
+}
+
+// One to three status bytes.
+fn take_status(g: &mut State, records: &mut Bytes) {
+    let n = add(1, below(g, 3));
+    take_out(g, records, n);
+}
+
+fn job_lun_status(g: &mut State, records: &mut Bytes) {
+    let lun = pick_lun(g);
+    let row = pick_row(g, lun);
+    command(g, records, 0x78);
+    put_row(g, records, lun, row);
+    take_status(g, records);
+    if is_busy(g, lun) {
+        if half(g) {
+            put_finish(g, records, lun);
+            take_out(g, records, 1);
+        }
+    }
+}
+
+fn make_others_ready(g: &mut State, records: &mut Bytes) {
+    let luns = number(g, field::LUNS);
+    let mut lun: usize = 0;
+    while lun < luns {
+        if !(lun == g[place::SELECTED]) {
+            make_ready(g, records, lun);
+        }
+        lun += 1;
+    }
+}
+
+fn job_status(g: &mut State, records: &mut Bytes) {
+    make_others_ready(g, records);
+    command(g, records, 0x70);
+    take_status(g, records);
+}
+
+// A command with one address, which at an edge is below `edge`, times `step`.
+fn short_command(
+    g: &mut State,
+    records: &mut Bytes,
+    value: usize,
+    edge: usize,
+    step: usize,
+    right: usize,
+) {
+    make_all_ready(g, records);
+    command(g, records, value);
+    if sometimes(g, knob::EDGE) {
+        let wrong = times(below(g, edge), step);
+        address(g, records, wrong);
+    } else {
+        address(g, records, right);
+    }
+}
+
+fn job_id(g: &mut State, records: &mut Bytes) {
+    let which = half(g);
+    let right = if which { 32 } else { 0 };
+    let most = if which { 7 } else { 5 };
+    short_command(g, records, 0x90, 256, 1, right);
+    let n = below(g, most);
+    take_out(g, records, n);
+}
+
+fn parameter_count(g: &mut State) -> usize {
+    let what = below(g, 4);
+    let more = below(g, 3);
+    if !sometimes(g, knob::LONG) {
+        return below(g, 12);
+    }
+    match what {
+        0 => add(255, more),
+        1 => add(511, more),
+        _ => add(768, more),
+    }
+}
+
+fn job_parameters(g: &mut State, records: &mut Bytes) {
+    short_command(g, records, 0xec, 2, 32, 0);
+    let n = parameter_count(g);
+    take_out(g, records, n);
+}
+
+fn job_get(g: &mut State, records: &mut Bytes) {
+    short_command(g, records, 0xee, 4, 1, 1);
+    let n = below(g, 7);
+    take_out(g, records, n);
+}
+
+fn feature_value(g: &mut State, place: usize) -> usize {
+    let what = below(g, 16);
+    if what == 0 {
+        return below(g, 256);
+    }
+    if (what == 1) | ((what < 10) & (place == 0)) {
+        return 64;
+    }
+    0
+}
+
+fn give_features(g: &mut State, records: &mut Bytes, n: usize) {
+    let mut i: usize = 0;
+    while i < n {
+        let value = feature_value(g, i);
+        cycle(g, records, 2, value);
+        i += 1;
+    }
+}
+
+fn job_set(g: &mut State, records: &mut Bytes) {
+    short_command(g, records, 0xef, 4, 1, 1);
+    if below(g, 8) == 0 {
+        let n = below(g, 6);
+        give_features(g, records, n);
+    } else {
+        give_features(g, records, 4);
+    }
+}
+
+// The line goes low, something is tried, and mostly it goes high again.
+fn job_low(g: &mut State, records: &mut Bytes) {
+    let what = below(g, 3);
+    let back = below(g, 8);
+    make_all_ready(g, records);
+    put(g, records, 5, 0);
+    match what {
+        0 => job_program(g, records),
+        1 => job_erase(g, records),
+        _ => job_read(g, records),
+    }
+    make_all_ready(g, records);
+    job_status(g, records);
+    if !(back == 0) {
+        put(g, records, 5, 1);
+    }
+}
+
+fn job_finish(g: &mut State, records: &mut Bytes) {
+    let luns = number(g, field::LUNS);
+    let mut lun: usize = 0;
+    while lun < luns {
+        if half(g) {
+            put_finish(g, records, lun);
+        }
+        lun += 1;
+    }
+    let last = below(g, add(luns, 2));
+    put_finish(g, records, last);
+}
+
+// A program and its status.
+fn program_looked(g: &mut State, records: &mut Bytes, lun: usize, row: usize) {
+    program_page(g, records, lun, row);
+    make_ready(g, records, lun);
+    job_status(g, records);
+}
+
+// The same, and the page read back.
+fn job_back(g: &mut State, records: &mut Bytes) {
+    let lun = pick_lun(g);
+    let row = pick_row(g, lun);
+    program_looked(g, records, lun, row);
+    read_page(g, records, lun, row);
+}
+
+// The same page until its count is full and once more; then perhaps an erase.
+fn job_twice(g: &mut State, records: &mut Bytes) {
+    let lun = pick_lun(g);
+    let row = pick_row(g, lun);
+    let most = add(g[field::PROGRAMS], 1);
+    let n = add(1, below(g, most));
+    let mut i: usize = 0;
+    while i < n {
+        program_looked(g, records, lun, row);
+        i += 1;
+    }
+    if below(g, 3) == 0 {
+        erase_block(g, records, lun, row);
+    }
+}
+
+// Jobs that move data.
+fn data_job(g: &mut State, records: &mut Bytes, job: usize) {
+    match job {
+        0 => job_read(g, records),
+        1 => job_lun_out(g, records),
+        2 => job_out(g, records),
+        3 => job_program(g, records),
+        4 => job_erase(g, records),
+        14 => job_back(g, records),
+        _ => job_twice(g, records),
+    }
+}
+
+// Jobs that look and set.
+fn other_job(g: &mut State, records: &mut Bytes, job: usize) {
+    match job {
+        5 => job_lun_status(g, records),
+        6 => job_status(g, records),
+        7 => job_id(g, records),
+        8 => job_parameters(g, records),
+        9 => job_get(g, records),
+        10 => job_set(g, records),
+        11 => job_low(g, records),
+        12 => put_reset(g, records),
+        _ => job_finish(g, records),
+    }
+}
+
+pub fn one_job(g: &mut State, records: &mut Bytes, job: usize) {
+    if (5 <= job) & (job <= 13) {
+        other_job(g, records, job);
+    } else {
+        data_job(g, records, job);
+    }
+}

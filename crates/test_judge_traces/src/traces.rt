@@ -1,0 +1,284 @@
+// Noise, wrong cycles, and whole traces.
+use crate::jobs::one_job;
+use crate::records::pick_lun;
+use crate::records::put;
+use crate::records::put_bad;
+use crate::records::put_reset;
+use test_judge_parts::field;
+use test_judge_parts::knob;
+use test_judge_parts::place;
+use test_judge_parts::random::below;
+use test_judge_parts::random::sometimes;
+use test_judge_parts::state::Bytes;
+use test_judge_parts::state::State;
+use test_judge_parts::state::fetch;
+use test_judge_parts::state::store;
+use test_kit::numbers::add;
+use test_kit::numbers::byte;
+use test_kit::numbers::get;
+use test_kit::numbers::hex_digit;
+use test_kit::numbers::sub;
+use test_kit::numbers::times;
+
+// The commands of document 01; FFh comes last, so that it is easily left out.
+const COMMANDS: [usize; 17] = [
+    0x00,
+    0x05,
+    0x06,
+    0x10,
+    0x30,
+    0x60,
+    0x70,
+    0x78,
+    0x80,
+    0x85,
+    0x90,
+    0xd0,
+    0xe0,
+    0xec,
+    0xee,
+    0xef,
+    0xff,
+];
+
+fn known_command(i: usize) -> usize {
+    if i < 17 { COMMANDS[i] } else { 0 }
+}
+
+// The mix of jobs of each kind of trace: sixteen jobs, a hex digit each, four kinds in a row. Kinds 7 and 8 are noise, and
+// have none.
+fn mix(kind: usize, i: usize) -> usize {
+    let at = add(kind % 4 * 16, i);
+    let digit = match kind / 4 {
+        0 => get(
+            b"0012333456789AEF000112333445556E0012333456789AAE333444BBBB650EAC",
+            at,
+        ),
+        1 => get(
+            b"011223337789AE5299AAAA33301E2C450012333456789AEF0000000000000000",
+            at,
+        ),
+        2 => get(
+            b"000000000000000001233455667789AD0012333456789AEC0012333456789AEC",
+            at,
+        ),
+        _ => get(
+            b"001122334455789A001122334566789A333344EEFFFF560E0123456789ABCDEF",
+            at,
+        ),
+    };
+    hex_digit(byte(digit))
+}
+
+fn near_command(g: &mut State) -> usize {
+    match below(g, 40) {
+        0 => 255,
+        1 | 2 => below(g, 256),
+        _ => known_command(below(g, 16)),
+    }
+}
+
+fn near_address(g: &mut State) -> usize {
+    match below(g, 8) {
+        0 => below(g, 256),
+        1 => 32,
+        2 => below(g, 16),
+        _ => below(g, 2),
+    }
+}
+
+fn near_data(g: &mut State) -> usize {
+    match below(g, 4) {
+        0 => below(g, 256),
+        1 => 64,
+        _ => 0,
+    }
+}
+
+// Of 32 records, how many are of each kind; 6 is a bad one.
+fn near_kind(n: usize) -> usize {
+    match n {
+        0..=7 => 0,
+        8..=18 => 1,
+        19..=21 => 2,
+        22..=27 => 3,
+        28 | 29 => 4,
+        30 => 5,
+        _ => 6,
+    }
+}
+
+fn near_value(g: &mut State, kind: usize) -> usize {
+    match kind {
+        0 => near_command(g),
+        1 => near_address(g),
+        2 => near_data(g),
+        3 => 0,
+        4 => pick_lun(g),
+        _ => below(g, 2),
+    }
+}
+
+// One record that looks like an event.
+fn near_record(g: &mut State, records: &mut Bytes) {
+    let kind = near_kind(below(g, 32));
+    if kind == 6 {
+        put_bad(g, records);
+    } else {
+        let value = near_value(g, kind);
+        put(g, records, kind, value);
+    }
+}
+
+fn noise_record(g: &mut State, records: &mut Bytes) {
+    let kind = below(g, 7);
+    let value = below(g, 256);
+    if kind == 6 {
+        let other = below(g, 256);
+        put(g, records, other, value);
+    } else {
+        put(g, records, kind, value);
+    }
+}
+
+// The last record moves to place 'at', the others make room.
+fn move_back(g: &State, records: &mut Bytes, at: usize) {
+    let end = g[place::LEN];
+    let kind = fetch(records, sub(end, 2));
+    let value = fetch(records, sub(end, 1));
+    let first = add(at, 2);
+    let mut i = end;
+    while first < i {
+        i -= 1;
+        let moved = fetch(records, sub(i, 2));
+        store(records, i, moved);
+    }
+    store(records, at, kind);
+    store(records, add(at, 1), value);
+}
+
+fn remove_record(g: &mut State, records: &mut Bytes, at: usize) {
+    let end = sub(g[place::LEN], 2);
+    g[place::LEN] = end;
+    let mut i = at;
+    while i < end {
+        let moved = fetch(records, add(i, 2));
+        store(records, i, moved);
+        i += 1;
+    }
+}
+
+fn other_command(g: &mut State, records: &mut Bytes, at: usize) {
+    store(records, at, 0);
+    let value = near_command(g);
+    store(records, add(at, 1), value);
+}
+
+fn one_more_record(g: &mut State, records: &mut Bytes, at: usize) {
+    near_record(g, records);
+    move_back(g, records, at);
+}
+
+fn same_again(g: &mut State, records: &mut Bytes, at: usize) {
+    let kind = fetch(records, at);
+    let value = fetch(records, add(at, 1));
+    put(g, records, kind, value);
+    move_back(g, records, at);
+}
+
+// Puts a wrong cycle at byte 'at'.
+fn wrong_at(g: &mut State, records: &mut Bytes, at: usize) {
+    match below(g, 6) {
+        0 => {
+            let value = below(g, 256);
+            store(records, add(at, 1), value)
+        }
+        1 => other_command(g, records, at),
+        2 => remove_record(g, records, at),
+        3 => one_more_record(g, records, at),
+        4 => {
+            let kind = below(g, 4);
+            store(records, at, kind)
+        }
+        _ => same_again(g, records, at),
+    }
+}
+
+// One wrong cycle in the job that began at byte 'from'.
+fn make_wrong(g: &mut State, records: &mut Bytes, from: usize) {
+    let n = sub(g[place::LEN], from) / 2;
+    if (n == 0) | (8190 < g[place::LEN]) {
+        return;
+    }
+    let at = add(from, times(2, below(g, n)));
+    wrong_at(g, records, at);
+}
+
+fn put_job(g: &mut State, records: &mut Bytes, kind: usize) {
+    let from = g[place::LEN];
+    let job = mix(kind, below(g, 16));
+    one_job(g, records, job);
+    if sometimes(g, knob::WRONG) {
+        make_wrong(g, records, from);
+    }
+}
+
+// Kind 7 is near noise, 8 noise, the others jobs.
+fn put_some(g: &mut State, records: &mut Bytes, kind: usize) {
+    match kind {
+        7 => near_record(g, records),
+        8 => noise_record(g, records),
+        _ => put_job(g, records, kind),
+    }
+}
+
+// Until there are as many as the knob says; the number of turns only ends the loop, and is never met.
+fn put_all(g: &mut State, records: &mut Bytes, kind: usize) {
+    let end = times(g[knob::RECORDS], 2);
+    let mut turns: usize = 0;
+    while turns < 1000000 {
+        if end <= g[place::LEN] {
+            return;
+        }
+        put_some(g, records, kind);
+        turns += 1;
+    }
+}
+
+// A record before the first FFh, which is none itself.
+fn put_early_record(g: &mut State, records: &mut Bytes) {
+    let at = g[place::LEN];
+    near_record(g, records);
+    if (fetch(records, at) == 0) & (fetch(records, add(at, 1)) == 255) {
+        let kind = add(1, below(g, 2));
+        store(records, at, kind);
+    }
+}
+
+// Before the first FFh: cycles of every kind, FFh only as address or data.
+fn put_early(g: &mut State, records: &mut Bytes) {
+    let n = add(4, below(g, 24));
+    let mut i: usize = 0;
+    while i < n {
+        put_early_record(g, records);
+        i += 1;
+    }
+    put(g, records, 1, 255);
+    put(g, records, 2, 255);
+    let level = below(g, 2);
+    put(g, records, 5, level);
+    put_reset(g, records);
+    put(g, records, 5, 1);
+}
+
+pub fn make_trace(g: &mut State, records: &mut Bytes, kind: usize, fresh: bool) {
+    g[place::LEN] = 0;
+    if kind == 9 {
+        put_early(g, records);
+    } else {
+        if fresh {
+            put_reset(g, records);
+        }
+    }
+    put_all(g, records, kind);
+}

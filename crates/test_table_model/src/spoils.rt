@@ -1,0 +1,157 @@
+// A record with one number of it changed: what the table's R words ask, for rule 13.
+use target::Column;
+use target::Decoder;
+use target::FeatureBytes;
+use target::Fill;
+use target::First;
+use target::Geometry;
+use target::Lun;
+use target::Moved;
+use target::Output;
+use target::Row;
+use target::Sequence;
+use target::Target;
+use target::Wait;
+use target::Words;
+
+fn sized(g: Geometry, field: usize, v: usize) -> Geometry {
+    match field {
+        1 => Geometry {
+            bytes: (v % 65536) as u16,
+            ..g
+        },
+        2 => Geometry { pages: v, ..g },
+        3 => Geometry { blocks: v, ..g },
+        4 => Geometry { luns: v, ..g },
+        _ => Geometry { programs: v, ..g },
+    }
+}
+
+// The feature word, the optional-command word.
+fn worded(w: Words, field: usize, v: usize) -> Words {
+    let word = (v % 65536) as u16;
+    if field == 9 {
+        Words {
+            features: word,
+            ..w
+        }
+    } else {
+        Words {
+            optional: word,
+            ..w
+        }
+    }
+}
+
+// LUN 2's mark of work, LUN 3's FAIL.
+fn marked(t: Target, field: usize, v: usize) -> Target {
+    let luns = t.luns;
+    let mut n = t;
+    if field == 7 {
+        let l = luns[2];
+        n.luns[2] = Lun {
+            working: v == 1,
+            ..l
+        };
+    } else {
+        let l = luns[3];
+        n.luns[3] = Lun { fail: v == 1, ..l };
+    }
+    n
+}
+
+fn output(field: usize, v: usize) -> Output {
+    match field {
+        16 => Output::Register {
+            lun: 0,
+            column: Column(v),
+        },
+        17 => Output::Register {
+            lun: v,
+            column: Column(0),
+        },
+        18 => Output::Parameters { at: v },
+        19 => Output::Status { lun: v },
+        20 => Output::Ids { at: v },
+        21 => Output::Signature { at: v },
+        _ => Output::Feature { at: v },
+    }
+}
+
+fn due(first: First, column: usize, row: usize) -> Sequence {
+    let wait = Wait {
+        first,
+        column: Column(column),
+        row: Row(row),
+    };
+    Sequence::Due(wait)
+}
+
+fn filling(row: usize, at: usize) -> Sequence {
+    let fill = Fill {
+        row: Row(row),
+        at: Column(at),
+    };
+    Sequence::Filling(fill)
+}
+
+fn moving(row: usize) -> Sequence {
+    let moved = Moved {
+        row: Row(row),
+        got: 1,
+        low: 0,
+    };
+    Sequence::Moving(moved)
+}
+
+fn setting(got: usize) -> Sequence {
+    let bytes = FeatureBytes {
+        got: (got % 256) as u8,
+        value: 0,
+    };
+    Sequence::Setting(bytes)
+}
+
+fn sequence(field: usize, v: usize) -> Sequence {
+    match field {
+        32 => due(First::Read, v, 0),
+        33 => due(First::Read, 0, v),
+        34 => due(First::ChangeColumnEnhanced, v, 0),
+        35 => due(First::ChangeColumnEnhanced, 0, v),
+        36 => due(First::ChangeColumn, v, 0),
+        37 => due(First::Erase, 0, v),
+        38 => filling(0, v),
+        39 => filling(v, 0),
+        40 => moving(v),
+        _ => setting(v),
+    }
+}
+
+fn held(t: Target, sequence: Sequence, output: Output) -> Target {
+    let decoder = Decoder { sequence, output };
+    Target { decoder, ..t }
+}
+
+// The record with number `field` set to `v`; the numbers are those of tools/expect/cases.py.
+pub fn spoiled(t: Target, field: usize, v: usize) -> Target {
+    let g = t.geometry;
+    match field {
+        0 => Target {
+            powered: v == 1,
+            ..t
+        },
+        1..=5 => {
+            let geometry = sized(g, field, v);
+            Target { geometry, ..t }
+        }
+        6 => Target { selected: v, ..t },
+        7..=8 => marked(t, field, v),
+        9..=10 => {
+            let w = t.words;
+            let words = worded(w, field, v);
+            Target { words, ..t }
+        }
+        16..=22 => held(t, Sequence::Idle, output(field, v)),
+        _ => held(t, sequence(field, v), Output::Nothing),
+    }
+}

@@ -1,0 +1,108 @@
+#!/usr/bin/env python3
+"""The files of crates/test_nib/data, all but `script` and `look`'s words: the folders and pages, the script's trace, and a
+long trace with its text, by a reader and a writer of their own.
+
+    python3 tools/expect/nibs.py            # writes them anew
+    python3 tools/expect/nibs.py --check    # says whether they are so
+"""
+import os, random, sys
+
+TOP = os.path.dirname(os.path.dirname(os.path.dirname(os.path.abspath(__file__))))
+ROOT = os.path.join(TOP, 'crates')
+DATA = os.path.join(ROOT, 'test_nib', 'data')
+LOOK = 'c ff  c 00  a 00 00 01 00 00  c 30  f 0  o 16\nc 78  a 00 00 00  o 1\n'
+KINDS = {'c': 0, 'a': 1, 'd': 2, 'f': 4, 'p': 5}
+
+
+def crc(data):
+    c = 0x4F4E
+    for x in data:
+        for k in range(7, -1, -1):
+            bit = (c >> 15 ^ x >> k) & 1
+            c = (c << 1) & 0xFFFF
+            if bit:
+                c ^= 0x8005
+    return c
+
+
+def page(luns, cycles):
+    """Part TINY: 16-byte pages, 2 pages a block, 3 blocks, 2 LUNs, EEh/EFh and 78h, one program a page."""
+    p = bytearray(256)
+    p[0:4] = b'ONFI'
+    p[6:10] = bytes([2, 1, 0x0C, 0])
+    p[32:64] = b'NIBTOGGLE   TINY                '
+    p[64], p[80], p[92], p[96], p[100], p[101], p[110] = 0x2C, 16, 2, 3, luns, cycles, 1
+    p[254:256] = crc(p[:254]).to_bytes(2, 'little')
+    return bytes(p)
+
+
+def read(text):
+    """Text to trace."""
+    out = bytearray()
+    for line in text.split('\n'):
+        letter = None
+        for word in line.split('#')[0].split():
+            if word in tuple('cadofpx'):
+                letter = word
+            elif letter in 'cad':
+                out += bytes([KINDS[letter], int(word, 16)])
+            elif letter == 'o':
+                out += bytes([3, 0]) * int(word)
+            elif letter in 'fp':
+                out += bytes([KINDS[letter], int(word)])
+            else:
+                out.append(int(word, 16))
+    return bytes(out)
+
+
+def write(records):
+    """Trace to text: addresses and data in up to 16 a line, data outs in a row as one count, every other record on a
+    line."""
+    lines = []
+    for kind, value in records:
+        letter = {0: 'c', 1: 'a', 2: 'd', 4: 'f', 5: 'p'}.get(kind, 'x')
+        letter = 'o' if (kind, value) == (3, 0) else letter
+        said = {'f': '%d' % value, 'p': '%d' % value, 'x': '%02x %02x' % (kind, value)}.get(letter, '%02x' % value)
+        room = {'a': 16, 'd': 16, 'o': 65535}.get(letter, 1)
+        if lines and lines[-1][0] == letter and len(lines[-1]) <= room:
+            lines[-1].append(said)
+        else:
+            lines.append([letter, said])
+    return ''.join('o %d\n' % (len(l) - 1) if l[0] == 'o' else ' '.join(l) + '\n' for l in lines)
+
+
+def many():
+    every = [(k, v) for k in range(8) for v in range(256)]
+    mixed = every[:]
+    random.Random(8).shuffle(mixed)
+    return every + mixed + [(3, 0)] * 40 + [(1, i) for i in range(33)] + [(2, i) for i in range(17)] + [(3, 0)]
+
+
+def files():
+    makers = open(os.path.join(ROOT, 'test_pages', 'data', 'makers'), 'rb').read()
+    for name, count in (('tiny', 0), ('dark', 2)):
+        yield name + '/page', page(2, 0x23)
+        yield name + '/id', b'\x68'
+        yield name + '/array', b'\xff' * 192
+        yield name + '/counts', bytes([count] + [0] * 11)
+        yield name + '/flags', bytes([0, 0, 1, 0, 0, 0])
+    yield 'real_page', makers[:256]
+    yield 'damaged_page', makers[256:512]
+    yield 'wrong_page', page(7, 0x24)
+    yield 'trace', read(open(os.path.join(DATA, 'script')).read())
+    yield 'look', read(LOOK)
+    yield 'many', bytes(x for r in many() for x in r) + b'\x03'
+    yield 'many_text', (write(many()) + 'x 03\n').encode()
+
+
+wrong = 0
+for name, data in files():
+    path = os.path.join(DATA, name)
+    if '--check' in sys.argv:
+        if open(path, 'rb').read() != data:
+            print(name, 'differs')
+            wrong = 1
+    else:
+        os.makedirs(os.path.dirname(path), exist_ok=True)
+        open(path, 'wb').write(data)
+sys.exit(wrong)
