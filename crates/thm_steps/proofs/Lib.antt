@@ -4,5 +4,3 @@ pub mod Read
 pub mod Program
 pub mod Status
 pub mod Identification
-pub mod Cases
-pub mod Useless

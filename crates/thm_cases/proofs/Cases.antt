@@ -23,8 +23,8 @@ use Rattle.step.specs.Step.{replyOf, worked, acceptedBy, accepted, byVerdict, s
 use Rattle.page.specs.Page.{field, bitOf as pageBit, signed, features, optionalCommands, makerId, dataBytes, spareBytes, pagesABlock, blocksALun, lunCount, addressCycles, programsAPage, storedCrc, crcGood, dataInLimits, spareInLimits, pagesInLimits, blocksInLimits, lunsInLimits, lunsAsFeatured, narrowBus, cyclesAsHouse, programsInLimits, fieldsInLimits}
 use Rattle.power.specs.Power.{geometryOf, wordsOf, poweredOf, wrongLength, unsigned, crcBad, fieldBad, bufferBad, contentBad, orRefused, powerAnswer, powerOf}
 use Rattle.trace.specs.Run.{written, oneMore, ranAll, eventsOf, standsUsable, oddAnswered, needed, traceOf}
-use Rattle.thm_steps.specs.Parts.{t1}
-use Rattle.thm_steps.specs.Cases.{geometry, Cases}
+use Rattle.thm_cases.specs.Parts.{t1}
+use Rattle.thm_cases.specs.Cases.{geometry, Cases}
 
 -- power-on is computed
 unfoldable pub powers : Unit {0}

@@ -12,10 +12,10 @@ use Rattle.step.specs.Step.{Outcome, stepOf}
 use Rattle.trace.specs.Run.{Running, oneMore, ranAll}
 use Rattle.thm_kept.specs.Kept.{letsPass}
 use Rattle.thm_kept.proofs.Kept.{step-usable}
-use Rattle.thm_steps.specs.Parts.{t1}
-use Rattle.thm_steps.specs.Useless.{reached, NotRefusedAlways, Useful}
+use Rattle.thm_cases.specs.Parts.{t1}
+use Rattle.thm_cases.specs.Useless.{reached, NotRefusedAlways, Useful}
 use Rattle.thm_steps.proofs.Reset.{reset}
-use Rattle.thm_steps.proofs.Cases.{computes, cases}
+use Rattle.thm_cases.proofs.Cases.{computes, cases}
 
 -- rule 13 lets pass wherever a run stands
 ran-passes : (params flags : List ℕ) (es : List Event) (s : Running) → letsPass (s .target) params (s .buffers) flags ≡ true

@@ -11,9 +11,9 @@ use Rattle.target.specs.declared.Work.the-variants as work
 use Rattle.step.specs.Buffers.{pageIndex, countsAfter}
 use Rattle.step.specs.Step.{State, stepOf}
 use Rattle.trace.specs.Run.{Running, ranAll, start}
 use Rattle.thm_steps.specs.Steps.{command}
-use Rattle.thm_steps.specs.Parts.{Part, t1, t1With, first, run, told}
-use Rattle.thm_steps.specs.Cases.{reset, program, read, accepted, byte, dataOut}
+use Rattle.thm_cases.specs.Parts.{Part, t1, t1With, first, run, told}
+use Rattle.thm_cases.specs.Cases.{reset, program, read, accepted, byte, dataOut}
 
 -- where a list of events leaves the part
 abbrev pub reached : Part → List Event → Running

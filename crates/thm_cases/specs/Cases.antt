@@ -12,7 +12,7 @@ use Rattle.target.specs.declared.Row.{Row}
 use Rattle.power.specs.Power.{powerNumber}
 use Rattle.step.specs.Buffers.{pageIndex}
 use Rattle.thm_kept.specs.Kept.{letsPass}
-use Rattle.thm_steps.specs.Parts.{Part, t1, t2, t1With, powered, first, run, told}
+use Rattle.thm_cases.specs.Parts.{Part, t1, t2, t1With, powered, first, run, told}
 
 -- records of a trace
 abbrev pub command : ℕ → List ℕ → List ℕ
