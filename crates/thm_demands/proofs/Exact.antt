@@ -23,7 +23,7 @@ use Rattle.rules.specs.Rules.{Rule, rules, firstHolding, verdict}
 use Rattle.step.specs.Usable.{usable}
 use Rattle.step.specs.Step.{Buffers, Outcome, replyOf, acceptedBy, accepted, byVerdict, steady, stepOf}
 use Rattle.thm_kept.proofs.Choice.{by-pick}
-use Rattle.thm_demands.specs.Exact.{rulesOf, speaks, silent, Exact}
+use Rattle.thm_demands.specs.Exact.{rulesOf, numbers, speaks, silent, Exact}
 
 -- two constructors are never equal
 apart : _≡_ {A = ℕ} 0 1 → ⊥
@@ -48,8 +48,11 @@ named-number LineHeld = refl
 named-number BadRecord = refl
 named-number NotUsable = refl
 
+pub by-number : (r q : Refusal) → numberOf r ≡ numberOf q → r ≡ q
+by-number r q h = sym (named-number r) ∙ ap named h ∙ named-number q
+
 same : (r q : Refusal) → eqb (numberOf r) (numberOf q) ≡ true → r ≡ q
-same r q h = sym (named-number r) ∙ ap named (eqb-true (numberOf r) (numberOf q) h) ∙ named-number q
+same r q h = by-number r q (eqb-true (numberOf r) (numberOf q) h)
 
 -- a refusal is listed; no refusal is listed twice
 listed : Refusal → List Rule → Bool
@@ -170,10 +173,15 @@ module _ (t : Target) (e : Event) (page : List ℕ) (b : Buffers) (flags : List 
   unfolding distinct listed rulesOf rules
   all-distinct = refl
 
+  in-order : numbers (rulesOf t e page b flags) ≡ 13 ∷ 12 ∷ 2 ∷ 1 ∷ 3 ∷ 6 ∷ 4 ∷ 9 ∷ 5 ∷ 7 ∷ 8 ∷ 10 ∷ 11 ∷ []
+  unfolding rulesOf rules
+  in-order = refl
+
   pub exact : Exact t e page b flags
   exact =
       let rs = rulesOf t e page b flags in
       record {
+        order = in-order;
         only-then = λ q h. to-speaks q rs all-distinct (step-says q .1 h);
         always-then = λ q h. step-says q .0 (from-speaks q rs h);
         else-accepted = λ h q k. let z : verdicts.Accepted ≡ verdicts.Refused q = sym (silent-first rs h) ∙ step-says q .1 k in apart (cc);

@@ -1,5 +1,4 @@
 pub mod Exact
+pub mod Numbered
 pub mod Promised
-pub mod Cases
-pub mod Useless
 pub mod Unique

@@ -12,6 +12,7 @@ use borrow.Author.Tests.{not-true, not-false, eqb-true, lt-ltb, eq-eqb}
 use Rattle.target.specs.Pick.{pick, orElse}
 use Rattle.target.specs.Events.{isBus, isReset, badRecord}
 use Rattle.target.specs.Luns.{allReady}
+use Rattle.target.specs.Numbers.{numberOf}
 use Rattle.target.specs.Views.{completed, taking, ending, endedBy, endedWith}
 use Rattle.target.specs.Place.{isOpen}
 use Rattle.target.specs.Commands.{rowOf, firstOf, secondOf, secondRow, endOf, takesRow, clearsRegister, classOf, offered}
@@ -67,7 +68,7 @@ use Rattle.thm_kept.proofs.Choice.{by-pick, and-true, then-not, or-true}
 use Rattle.thm_kept.proofs.Kept.{Fit, step-usable, step-steady, all-sound}
 use Rattle.thm_demands.specs.Runs.{stepAt, left, after, poweredUp}
 use Rattle.thm_demands.specs.Exact.{rulesOf, speaks}
-use Rattle.thm_demands.proofs.Exact.{never-13, exact}
+use Rattle.thm_demands.proofs.Exact.{by-number, never-13, exact}
 use Rattle.thm_demands.specs.Promises.{dropped, RefusedCycle, BadChangesNothing, RefusedBench, RefusedPower, Preserved, LineLow, lowThrough, LineLowRun, reset, ResetReadies, NeverUnusable}
 
 -- two constructors are never equal
@@ -162,16 +163,20 @@ module _ (t : Target) (e : Event) (page : List ℕ) (b : Buffers) (flags : List 
 
 pub refused-cycle : RefusedCycle
 refused-cycle t e page b flags r bus h other usable-too =
+    let not-12 : r ≡ refusal.BadRecord → ⊥ = λ is. other (ap numberOf is) in
+    let not-13 : r ≡ refusal.NotUsable → ⊥ = λ is. usable-too (ap numberOf is) in
     settled t e page b flags r (dropped t)
-    (after-cycle t e page b flags bus (good-record t e page b flags r h other usable-too))
-    (λ is. absurd (usable-too is)) h
+    (after-cycle t e page b flags bus (good-record t e page b flags r h not-12 not-13))
+    (λ is. absurd (not-13 is)) h
 
 pub bad-changes-nothing : BadChangesNothing
 bad-changes-nothing t e page b flags r h which =
     ⊎-elim
-    (λ (is : r ≡ refusal.BadRecord).
+    (λ (n : numberOf r ≡ 12).
+    let is = by-number r refusal.BadRecord n in
     settled t e page b flags r t (after-bad t e page b flags (bad-told t e page b flags (h ∙ ap reply.Refused is))) (λ _. refl) h)
-    (λ (is : r ≡ refusal.NotUsable).
+    (λ (n : numberOf r ≡ 13).
+    let is = by-number r refusal.NotUsable n in
     ⊎-elim
     (λ p. absurd (never-13 t e (p .0 ∙ ap verdicts.Refused is)))
     (λ p. p .1)
@@ -368,7 +373,7 @@ reset-readies page device array registers counts flags on es s at =
     rw (step-steady (s .target) reset page (s .buffers) flags fit) (reset-steady s page flags)
 
 pub never-unusable : NeverUnusable
-never-unusable page device array registers counts flags on es e s at h =
+never-unusable page device array registers counts flags on es e s at r h n =
     let fit = subst (λ (x : State). Fit (x .target) page (x .buffers) flags) (sym at) (run-fit page device array registers counts flags on es _ (powered-fit page device array registers counts flags on)) in
-    let told = sym (ap (λ (o : Outcome). o .reply) (step-steady (s .target) e page (s .buffers) flags fit)) ∙ h in
+    let told = sym (ap (λ (o : Outcome). o .reply) (step-steady (s .target) e page (s .buffers) flags fit)) ∙ h ∙ ap reply.Refused (by-number r refusal.NotUsable n) in
     never-13 (s .target) e (refused-by (s .target) e page (s .buffers) flags (verdict (s .target) e) refusal.NotUsable (steady-reply (s .target) e page (s .buffers) flags ∙ told) .0)

@@ -23,6 +23,11 @@ rulesOf t e page b flags =
     rule (not (usable t (length page) (length (b .array)) (length (b .registers)) (length (b .counts)) (length flags))) refusal.NotUsable
     ∷ rules t e
 
+-- their numbers, in that order
+abbrev pub numbers : List Rule → List ℕ
+numbers [] = []
+numbers (r ∷ rs) = numberOf (r .gives) ∷ numbers rs
+
 -- the rule of this refusal holds, and none listed before it does
 abbrev pub speaks : Refusal → List Rule → Bool
 speaks q [] = false
@@ -35,6 +40,7 @@ silent (r ∷ rs) = not (r .holds) && silent rs
 
 -- an event is refused with q exactly when q's rule is the first that holds, and not refused exactly when none does
 pub record Exact (t : Target) (e : Event) (page : List ℕ) (b : Buffers) (flags : List ℕ) : Type 0 where
+  pub order : numbers (rulesOf t e page b flags) ≡ 13 ∷ 12 ∷ 2 ∷ 1 ∷ 3 ∷ 6 ∷ 4 ∷ 9 ∷ 5 ∷ 7 ∷ 8 ∷ 10 ∷ 11 ∷ []
   pub only-then : (q : Refusal) → stepOf t e page b flags .reply ≡ reply.Refused q → speaks q (rulesOf t e page b flags) ≡ true
   pub always-then : (q : Refusal) → speaks q (rulesOf t e page b flags) ≡ true → stepOf t e page b flags .reply ≡ reply.Refused q
   pub else-accepted : silent (rulesOf t e page b flags) ≡ true → (q : Refusal) → stepOf t e page b flags .reply ≡ reply.Refused q → ⊥

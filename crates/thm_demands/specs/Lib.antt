@@ -1,5 +1,4 @@
 pub mod Runs
 pub mod Promises
 pub mod Exact
-pub mod Cases
-pub mod Useless
+pub mod Numbered

@@ -6,11 +6,11 @@ use mathlib.Core.Logic.{_⊎_}
 use Prim.Native.Nat.{ℕ}
 use lib.ListN.{length}
 use Rattle.target.specs.Luns.{allReady}
+use Rattle.target.specs.Numbers.{numberOf}
 use Rattle.target.specs.Events.{isBus}
 use Rattle.target.specs.declared.Event.{Event}
 use Rattle.target.specs.declared.Target.{Target}
 use Rattle.target.specs.declared.Refusal.{Refusal}
-use Rattle.target.specs.declared.Refusal.the-variants.{BadRecord, NotUsable}
 use Rattle.target.specs.declared.Reply.the-variants.{Accepted, Refused}
 use Rattle.target.specs.declared.Sequence.the-variants.{Idle}
 use Rattle.target.specs.declared.Output.the-variants.{Nothing}
@@ -40,14 +40,14 @@ dropped t = record {
 abbrev pub RefusedCycle : Type 0
 RefusedCycle =
     (t : Target) (e : Event) (page : List ℕ) (b : Buffers) (flags : List ℕ) (r : Refusal)
-    → isBus e ≡ true → stepOf t e page b flags .reply ≡ Refused r → (r ≡ BadRecord → ⊥) → (r ≡ NotUsable → ⊥)
+    → isBus e ≡ true → stepOf t e page b flags .reply ≡ Refused r → (numberOf r ≡ 12 → ⊥) → (numberOf r ≡ 13 → ⊥)
     → stepOf t e page b flags ≡ record { reply = Refused r; target = dropped t; buffers = b }
 
 -- "12 and 13 .. change nothing"
 abbrev pub BadChangesNothing : Type 0
 BadChangesNothing =
     (t : Target) (e : Event) (page : List ℕ) (b : Buffers) (flags : List ℕ) (r : Refusal)
-    → stepOf t e page b flags .reply ≡ Refused r → (r ≡ BadRecord) ⊎ (r ≡ NotUsable)
+    → stepOf t e page b flags .reply ≡ Refused r → (numberOf r ≡ 12) ⊎ (numberOf r ≡ 13)
     → stepOf t e page b flags ≡ record { reply = Refused r; target = t; buffers = b }
 
 -- "a refused bench event changes nothing"
@@ -104,4 +104,4 @@ NeverUnusable =
     (page : List ℕ) (device : ℕ) (array registers counts flags : List ℕ)
     → powerAnswer page (length array) (length registers) counts flags ≡ power.Accepted
     → (es : List Event) (e : Event) (s : State) → s ≡ after page flags es (poweredUp page device array registers counts)
-    → stepAt page flags s e .reply ≡ Refused NotUsable → ⊥
+    → (r : Refusal) → stepAt page flags s e .reply ≡ Refused r → numberOf r ≡ 13 → ⊥

@@ -1,0 +1,330 @@
+-- Document 01's "The steps", paragraph by paragraph and in its order: a record for each paragraph, a field for each sentence, stated
+-- over `stepOf`. "Place" is stated by the definitions of crates/target/specs; proofs/ proves the rest.
+use mathlib.Core.Path.{_≡_}
+use mathlib.Core.Bool.{Bool, true, false, _&&_, _||_, not}
+use mathlib.Core.List.{List}
+use Prim.Native.Nat.{ℕ, _+_, _*_, _%_, _<_}
+use lib.ListN.{length, getD, set, replicate}
+use lib.Dec.{eqb}
+use Rattle.slices.specs.Cells.{part, splice, andBytes}
+use Rattle.target.specs.Pick.{pick}
+use Rattle.target.specs.Numbers.{numberOf}
+use Rattle.target.specs.Events.{isReset}
+use Rattle.target.specs.Words.{hasFeature}
+use Rattle.target.specs.Sizes.{pageSize}
+use Rattle.target.specs.Address.{columnFrom, rowFrom, lunOf, lunExists}
+use Rattle.target.specs.Luns.{lunAt, works, failed, allReady}
+use Rattle.target.specs.declared.Column.{Column}
+use Rattle.target.specs.declared.Row.{Row}
+use Rattle.target.specs.declared.Lun.{Lun}
+use Rattle.target.specs.declared.Event.{Event}
+use Rattle.target.specs.declared.Target.{Target}
+use Rattle.target.specs.declared.First.{First}
+use Rattle.target.specs.declared.First.the-variants as first
+use Rattle.target.specs.declared.Sequence.{Sequence}
+use Rattle.target.specs.declared.Sequence.the-variants.{Idle, Columns, Rows, Single, Due, Filling, Moving, Setting}
+use Rattle.target.specs.declared.Output.{Output}
+use Rattle.target.specs.declared.Output.the-variants as output
+use Rattle.target.specs.declared.Refusal.{Refusal}
+use Rattle.target.specs.declared.Reply.{Reply}
+use Rattle.target.specs.declared.Reply.the-variants as reply
+use Rattle.step.specs.Buffers.{blockIndex, pageIndex, blockBad, pageFull}
+use Rattle.step.specs.Step.{Buffers, Outcome, stepOf}
+use Rattle.thm_kept.specs.Kept.{letsPass}
+
+-- events
+abbrev pub command : ℕ → Event
+command v = record { kind = 0; value = v }
+
+abbrev pub address : ℕ → Event
+address v = record { kind = 1; value = v }
+
+abbrev pub dataIn : ℕ → Event
+dataIn v = record { kind = 2; value = v }
+
+abbrev pub dataOut : Event
+dataOut = record { kind = 3; value = 0 }
+
+abbrev pub finish : ℕ → Event
+finish l = record { kind = 4; value = l }
+
+-- the place reached: all addresses of a first command have come
+abbrev pub due : First → Column → Row → Sequence
+due f c r = Due (record { first = f; column = c; row = r })
+
+-- two of its three row cycles have come
+abbrev pub lastRow : First → Column → ℕ → ℕ → Sequence
+lastRow f c low mid = Rows (record { first = f; column = c; got = 2; low = low; mid = mid })
+
+-- a program takes data, next at this place
+abbrev pub filling : Row → Column → Sequence
+filling r c = Filling (record { row = r; at = c })
+
+-- EFh with `got` of its four bytes, the first of which was `value`
+abbrev pub setting : ℕ → ℕ → Sequence
+setting got value = Setting (record { got = got; value = value })
+
+-- a LUN's record: it works, with this FAIL; it is ready, with this FAIL
+abbrev pub working : Bool → Lun
+working fail = record { working = true; fail = fail }
+
+abbrev pub waiting : Bool → Lun
+waiting fail = record { working = false; fail = fail }
+
+-- 30h, 10h and D0h
+abbrev pub beginsWork : Event → Bool
+beginsWork e = eqb (e .kind) 0 && (eqb (e .value) 0x30 || eqb (e .value) 0x10 || eqb (e .value) 0xd0)
+
+-- Every paragraph is about a record, the parameter bytes and the lent buffers.
+module _ (t : Target) (params : List ℕ) (b : Buffers) (flags : List ℕ) where
+  abbrev pub after : Event → Outcome
+  after e = stepOf t e params b flags
+
+  -- the event is accepted: it is not refused, with 13 or otherwise
+  abbrev pub Taken : Event → Type 0
+  Taken e = (q : Refusal) → after e .reply ≡ reply.Refused q → ⊥
+
+  -- it is refused with this number
+  abbrev pub RefusedWith : ℕ → Event → Type 0
+  RefusedWith n e = (q : Refusal) × ((after e .reply ≡ reply.Refused q) × (numberOf q ≡ n))
+
+  -- the first FFh has come, and rule 13 lets the record and the buffers pass
+  pub record Live : Type 0 where
+    pub passes : letsPass t params b flags ≡ true
+    pub seen : t .seen ≡ true
+
+  -- the place reached, and the output
+  abbrev pub At : Sequence → Type 0
+  At s = t .decoder .sequence ≡ s
+
+  abbrev pub Out : Output → Type 0
+  Out o = t .decoder .output ≡ o
+
+  -- P, and where a LUN's register, a page and a block begin
+  abbrev pub size : ℕ
+  size = pageSize (t .geometry)
+
+  abbrev pub lun : Row → ℕ
+  lun r = lunOf (t .geometry) r
+
+  abbrev pub registerAt : ℕ → ℕ
+  registerAt l = l * size
+
+  abbrev pub pageAt : Row → ℕ
+  pageAt r = pageIndex (t .geometry) r * size
+
+  -- an event that changes no lent byte
+  abbrev pub LeavesBuffers : Event → Type 0
+  LeavesBuffers e = after e .buffers ≡ b
+
+  -- an event that changes the registers alone
+  abbrev pub LeavesRegisters : Event → List ℕ → Type 0
+  LeavesRegisters e new = after e .buffers ≡ record { array = b .array; registers = new; counts = b .counts }
+
+  -- **Read.**
+  pub record Read : Type 0 where
+    -- "30h copies the page into the LUN's register"
+    pub copies : (c : Column) (r : Row) → At (due first.Read c r) → Taken (command 0x30)
+        → LeavesRegisters (command 0x30) (splice (b .registers) (registerAt (lun r)) size (part (b .array) (pageAt r) size))
+    -- "and starts work"; "FAIL .. 0 for a read", on a bad block too
+    pub starts : (c : Column) (r : Row) → At (due first.Read c r) → Taken (command 0x30)
+        → after (command 0x30) .target .luns ≡ set (t .luns) (lun r) (working false)
+    -- "output will begin at the column"
+    pub puts-out : (c : Column) (r : Row) → At (due first.Read c r) → Taken (command 0x30)
+        → after (command 0x30) .target .decoder ≡ record { sequence = Idle; output = output.Register (lun r) c }
+    -- a byte that is put out is the register's, and the next one is a place further
+    pub byte : (l : ℕ) (c : Column) → Out (output.Register l c) → Taken dataOut
+        → (after dataOut .reply ≡ reply.Byte (getD (b .registers) (registerAt l + c .0) 0))
+        × (after dataOut .target .decoder .output ≡ output.Register l (record { 0 = c .0 + 1 }))
+    -- "06h needs a ready LUN": its last row cycle is refused with 5 while the LUN works
+    pub needs-ready : (c : Column) (low mid v : ℕ) → At (lastRow first.ChangeColumnEnhanced c low mid) → Live
+        → lunExists (t .geometry) (rowFrom low mid v) ≡ true → works (t .luns) (lun (rowFrom low mid v)) ≡ true
+        → RefusedWith 5 (address v)
+    -- "and E0h then starts output there"
+    pub there : (c : Column) (r : Row) → At (due first.ChangeColumnEnhanced c r) → Taken (command 0xe0)
+        → (after (command 0xe0) .target .decoder ≡ record { sequence = Idle; output = output.Register (lun r) c })
+        × (after (command 0xe0) .target .luns ≡ t .luns) × LeavesBuffers (command 0xe0)
+    -- "05h does it for the selected LUN"
+    pub selected : (c : Column) (r : Row) → At (due first.ChangeColumn c r) → Taken (command 0xe0)
+        → (after (command 0xe0) .target .decoder ≡ record { sequence = Idle; output = output.Register (t .selected) c })
+        × (after (command 0xe0) .target .luns ≡ t .luns) × LeavesBuffers (command 0xe0)
+    -- "the busy check at its second column cycle": refused with 5 there, and not before
+    pub busy : (low v : ℕ) → At (Columns (record { first = first.ChangeColumn; got = 1; low = low })) → Live
+        → columnFrom low v .0 < size → works (t .luns) (t .selected) ≡ true → RefusedWith 5 (address v)
+    pub not-before : (v : ℕ) → At (Columns (record { first = first.ChangeColumn; got = 0; low = 0 })) → Live
+        → after (address v) .reply ≡ reply.Accepted
+    -- "Selected is the LUN of the last accepted row"
+    pub selects : (f : First) (c : Column) (low mid v : ℕ) → At (lastRow f c low mid) → Taken (address v)
+        → after (address v) .target .selected ≡ lun (rowFrom low mid v)
+    -- "LUN 0 after FFh"
+    pub selects-first : letsPass t params b flags ≡ true → after (command 0xff) .target .selected ≡ 0
+
+  -- **Program.**
+  pub record Program : Type 0 where
+    -- "With program-clear off, 80h fills every register with FFh when it is accepted"
+    pub clears-all : t .clear ≡ false → Taken (command 0x80)
+        → LeavesRegisters (command 0x80) (replicate (length (b .registers)) 0xff)
+    -- and none with its last row cycle
+    pub clears-once : t .clear ≡ false → (c : Column) (low mid v : ℕ) → At (lastRow first.Program c low mid) → Taken (address v)
+        → LeavesBuffers (address v)
+    -- "With it on, only the addressed LUN's, when the last row cycle is accepted"
+    pub clears-one : t .clear ≡ true → (c : Column) (low mid v : ℕ) → At (lastRow first.Program c low mid) → Taken (address v)
+        → LeavesRegisters (address v)
+        (splice (b .registers) (registerAt (lun (rowFrom low mid v))) size (replicate size 0xff))
+    -- and none with 80h itself
+    pub clears-later : t .clear ≡ true → Taken (command 0x80) → LeavesBuffers (command 0x80)
+    -- "Data goes in from the column upward"
+    pub begins : (c : Column) (low mid v : ℕ) → At (lastRow first.Program c low mid) → Taken (address v)
+        → after (address v) .target .decoder .sequence ≡ filling (rowFrom low mid v) c
+    pub goes-in : (r : Row) (c : Column) (v : ℕ) → At (filling r c) → Taken (dataIn v)
+        → LeavesRegisters (dataIn v)
+        (splice (b .registers) (registerAt (lun r)) size (set (part (b .registers) (registerAt (lun r)) size) (c .0) v))
+    pub upward : (r : Row) (c : Column) (v : ℕ) → At (filling r c) → Taken (dataIn v)
+        → after (dataIn v) .target .decoder .sequence ≡ filling r (record { 0 = c .0 + 1 })
+    -- "85h and two cycles move it"
+    pub moves : (r : Row) (c : Column) → At (filling r c) → Taken (command 0x85)
+        → (after (command 0x85) .target .decoder .sequence ≡ Moving (record { row = r; got = 0; low = 0 }))
+        × LeavesBuffers (command 0x85)
+    pub moves-low : (r : Row) (v : ℕ) → At (Moving (record { row = r; got = 0; low = 0 })) → Taken (address v)
+        → (after (address v) .target .decoder .sequence ≡ Moving (record { row = r; got = 1; low = v })) × LeavesBuffers (address v)
+    pub moves-high : (r : Row) (low v : ℕ) → At (Moving (record { row = r; got = 1; low = low })) → Taken (address v)
+        → (after (address v) .target .decoder .sequence ≡ filling r (columnFrom low v)) × LeavesBuffers (address v)
+    -- "10h: each array byte becomes old AND register, the count rises by one"
+    pub programs : (r : Row) (c : Column) → At (filling r c) → Taken (command 0x10)
+        → blockBad (t .geometry) r flags ≡ false → pageFull (t .geometry) r (b .counts) ≡ false
+        → after (command 0x10) .buffers ≡ record {
+          array = splice (b .array) (pageAt r) size (andBytes (part (b .array) (pageAt r) size) (part (b .registers) (registerAt (lun r)) size));
+          registers = b .registers;
+          counts = set (b .counts) (pageIndex (t .geometry) r) (getD (b .counts) (pageIndex (t .geometry) r) 0 + 1);
+        }
+    -- "work starts"
+    pub starts : (r : Row) (c : Column) → At (filling r c) → Taken (command 0x10)
+        → blockBad (t .geometry) r flags ≡ false → pageFull (t .geometry) r (b .counts) ≡ false
+        → after (command 0x10) .target .luns ≡ set (t .luns) (lun r) (working false)
+    -- "If the block's flag is not 0 or the count is at or above programs a page, array and count stay, FAIL is 1, and work still starts"
+    pub stays : (r : Row) (c : Column) → At (filling r c) → Taken (command 0x10)
+        → (blockBad (t .geometry) r flags || pageFull (t .geometry) r (b .counts)) ≡ true
+        → LeavesBuffers (command 0x10) × (after (command 0x10) .target .luns ≡ set (t .luns) (lun r) (working true))
+    -- "No data at all before 10h is allowed": wherever data may come 10h is accepted, with the line high
+    pub no-data : (r : Row) (c : Column) → At (filling r c) → Live → t .high ≡ true
+        → after (command 0x10) .reply ≡ reply.Accepted
+
+  -- **Erase.**
+  pub record Erase : Type 0 where
+    -- "D0h sets the block's bytes to FFh and its counts to 0"
+    pub erases : (c : Column) (r : Row) → At (due first.Erase c r) → Taken (command 0xd0) → blockBad (t .geometry) r flags ≡ false
+        → (after (command 0xd0) .buffers ≡ record {
+          array = splice (b .array) (blockIndex (t .geometry) r * t .geometry .pages * size) (t .geometry .pages * size)
+          (replicate (t .geometry .pages * size) 0xff);
+          registers = b .registers;
+          counts = splice (b .counts) (blockIndex (t .geometry) r * t .geometry .pages) (t .geometry .pages)
+          (replicate (t .geometry .pages) 0);
+        })
+        × (after (command 0xd0) .target .luns ≡ set (t .luns) (lun r) (working false))
+    -- "A factory bad block stays and gives FAIL"
+    pub stays : (c : Column) (r : Row) → At (due first.Erase c r) → Taken (command 0xd0) → blockBad (t .geometry) r flags ≡ true
+        → LeavesBuffers (command 0xd0) × (after (command 0xd0) .target .luns ≡ set (t .luns) (lun r) (working true))
+
+  -- **Work.** Read, Program and Erase say that 30h, 10h and D0h begin it, and which FAIL each sets afresh.
+  pub record Work : Type 0 where
+    -- "A LUN works .. to its finish event", which leaves FAIL as it is
+    pub finishes : (l : ℕ) → Taken (finish l) → after (finish l) .target .luns ≡ set (t .luns) l (waiting (failed (t .luns) l))
+    -- and no other event but FFh begins or ends it, or sets FAIL
+    pub else-as-it-is : (e : Event) → Taken e → beginsWork e ≡ false → eqb (e .kind) 4 ≡ false → isReset e ≡ false
+        → after e .target .luns ≡ t .luns
+
+  -- **Status.**
+  pub record Status : Type 0 where
+    -- "70h and 78h give it": of the selected LUN, and of the row's
+    pub of-selected : Taken (command 0x70)
+        → after (command 0x70) .target .decoder ≡ record { sequence = Idle; output = output.Status (t .selected) }
+    pub of-row : (c : Column) (low mid v : ℕ) → At (lastRow first.StatusEnhanced c low mid) → Taken (address v)
+        → after (address v) .target .decoder ≡ record { sequence = Idle; output = output.Status (lun (rowFrom low mid v)) }
+    -- "128 if the line is high, plus 96 if ready, plus FAIL if ready"; "always the present value"; never refused
+    pub gives : (l : ℕ) → Out (output.Status l) → Live
+        → after dataOut .reply
+        ≡ reply.Byte (pick (t .high) 128 0 + pick (not (works (t .luns) l)) 96 0 + pick (not (works (t .luns) l) && failed (t .luns) l) 1 0)
+    -- "as often as asked": nothing changes by it
+    pub stays : (l : ℕ) → Out (output.Status l) → Live → (after dataOut .target ≡ t) × LeavesBuffers dataOut
+
+  -- the output of an address or data-out cycle that ends a sequence at once: no LUN works for it, no lent byte changes
+  pub record Shows (e : Event) (o : Output) : Type 0 where
+    pub decoder : after e .target .decoder ≡ record { sequence = Idle; output = o }
+    pub luns : after e .target .luns ≡ t .luns
+    pub buffers : LeavesBuffers e
+
+  -- a data-out cycle gives this byte, and the output is then this one
+  abbrev pub Gives : ℕ → Output → Type 0
+  Gives v o = (after dataOut .reply ≡ reply.Byte v) × ((after dataOut .target .decoder .output ≡ o) × LeavesBuffers dataOut)
+
+  -- **Identification.**
+  pub record Identification : Type 0 where
+    -- "90h with 00h: maker ID, device ID", and no third
+    pub ids : At (Single first.ReadId) → Taken (address 0x00) → Shows (address 0x00) (output.Ids 0)
+    pub maker : Out (output.Ids 0) → Live → Gives (t .ids .maker) (output.Ids 1)
+    pub device : Out (output.Ids 1) → Live → Gives (t .ids .device) (output.Ids 2)
+    pub no-third : Out (output.Ids 2) → Live → RefusedWith 8 dataOut
+    -- "With 20h: 4F 4E 46 49", and no fifth
+    pub signature : At (Single first.ReadId) → Taken (address 0x20) → Shows (address 0x20) (output.Signature 0)
+    pub O : Out (output.Signature 0) → Live → Gives 0x4f (output.Signature 1)
+    pub N : Out (output.Signature 1) → Live → Gives 0x4e (output.Signature 2)
+    pub F : Out (output.Signature 2) → Live → Gives 0x46 (output.Signature 3)
+    pub I : Out (output.Signature 3) → Live → Gives 0x49 (output.Signature 4)
+    pub no-fifth : Out (output.Signature 4) → Live → RefusedWith 8 dataOut
+    -- "ECh with 00h: the page three times, 768 bytes"
+    pub page : At (Single first.ParameterPage) → Taken (address 0x00) → Shows (address 0x00) (output.Parameters 0)
+    pub page-byte : (at : ℕ) → at < 768 → Out (output.Parameters at) → Live → Gives (getD params (at % 256) 0) (output.Parameters (at + 1))
+    pub page-ends : Out (output.Parameters 768) → Live → RefusedWith 8 dataOut
+    -- "EEh/EFh know address 01h only"
+    pub get : At (Single first.GetFeatures) → Taken (address 0x01) → Shows (address 0x01) (output.Feature 0)
+    pub get-only : (v : ℕ) → eqb v 0x01 ≡ false → At (Single first.GetFeatures) → Live → RefusedWith 4 (address v)
+    pub set-bytes : At (Single first.SetFeatures) → Taken (address 0x01)
+        → after (address 0x01) .target .decoder .sequence ≡ setting 0 0
+    pub set-only : (v : ℕ) → eqb v 0x01 ≡ false → At (Single first.SetFeatures) → Live → RefusedWith 4 (address v)
+    -- EEh: "four bytes, P1 0 or 40h, the rest 0"
+    pub p1-out : Out (output.Feature 0) → Live → Gives (pick (t .clear) 0x40 0) (output.Feature 1)
+    pub p2-out : Out (output.Feature 1) → Live → Gives 0 (output.Feature 2)
+    pub p3-out : Out (output.Feature 2) → Live → Gives 0 (output.Feature 3)
+    pub p4-out : Out (output.Feature 3) → Live → Gives 0 (output.Feature 4)
+    pub four-out : Out (output.Feature 4) → Live → RefusedWith 8 dataOut
+    -- EFh: "P1 0 or 40h .. 40h needs feature bit 8"
+    pub p1-offered : (v value : ℕ) → At (setting 0 value) → Live → (eqb v 0 || eqb v 0x40 && hasFeature (t .words) 8) ≡ true
+        → after (dataIn v) .reply ≡ reply.Accepted
+    pub p1-else : (v value : ℕ) → At (setting 0 value) → Live → (eqb v 0 || eqb v 0x40 && hasFeature (t .words) 8) ≡ false
+        → RefusedWith 9 (dataIn v)
+    -- "the rest 0"
+    pub rest-zero : (got value v : ℕ) → eqb got 0 ≡ false → At (setting got value) → Live → eqb v 0 ≡ false → RefusedWith 9 (dataIn v)
+    -- "EFh takes hold at its fourth byte": the first three are kept in the decoder
+    pub first-byte : (v value : ℕ) → At (setting 0 value) → Taken (dataIn v)
+        → (after (dataIn v) .target .decoder .sequence ≡ setting 1 v) × (after (dataIn v) .target .clear ≡ t .clear)
+    pub second-byte : (v value : ℕ) → At (setting 1 value) → Taken (dataIn v)
+        → (after (dataIn v) .target .decoder .sequence ≡ setting 2 value) × (after (dataIn v) .target .clear ≡ t .clear)
+    pub third-byte : (v value : ℕ) → At (setting 2 value) → Taken (dataIn v)
+        → (after (dataIn v) .target .decoder .sequence ≡ setting 3 value) × (after (dataIn v) .target .clear ≡ t .clear)
+    pub fourth-byte : (v value : ℕ) → At (setting 3 value) → Taken (dataIn v)
+        → (after (dataIn v) .target .decoder .sequence ≡ Idle) × (after (dataIn v) .target .clear ≡ eqb value 0x40)
+    -- "These end at once": no LUN works for EFh, no lent byte changes
+    pub at-once : (v got value : ℕ) → At (setting got value) → Taken (dataIn v)
+        → (after (dataIn v) .target .luns ≡ t .luns) × LeavesBuffers (dataIn v)
+
+  -- **Reset.** "FFh: sequence and output dropped, registers FFh, program-clear off, every LUN ready, FAIL 0, array and counts as they
+  -- are": accepted wherever rule 13 lets pass, and nothing else changes
+  abbrev pub Reset : Type 0
+  Reset =
+      letsPass t params b flags ≡ true
+      → after (command 0xff) ≡ record {
+        reply = reply.Accepted;
+        target = record {
+          powered = t .powered;
+          geometry = t .geometry;
+          words = t .words;
+          ids = t .ids;
+          high = t .high;
+          clear = false;
+          seen = true;
+          selected = 0;
+          luns = allReady;
+          decoder = record { sequence = Idle; output = output.Nothing };
+        };
+        buffers = record { array = b .array; registers = replicate (length (b .registers)) 0xff; counts = b .counts };
+      }
