@@ -24,21 +24,29 @@ PRINTED = [
     ('MT29F256G08AUAAAC5', 0x5DF0),
 ]
 
+# Entries of the CRC's table, and CRCs, that are known beforehand.
+ENTRIES = [(1, 0x8005), (2, 0x800F), (3, 0x000A), (255, 0x0202)]
+KNOWN = [('nothing', b'', 0x4F4E), ('123456789', b'123456789', 0x2771), ('254 times 00', bytes(254), 0x3EEE),
+         ('254 times ff', b'\xff' * 254, 0xC1E2)]
+
 # ---------------------------------------------------------------- document 01, "Power-on and the parameter page"
+
+
+def remainder(rest):
+    """By x^16 + 8005h, bits as powers of x."""
+    divisor = 0x18005
+    while rest >> 16:
+        rest ^= divisor << (rest.bit_length() - 17)
+    return rest
 
 
 def crc(message):
     """Polynomial 8005h, start 4F4Eh, most significant bit first, nothing reflected or inverted at the end.
 
     As a division: the start value stands over the first 16 bits of the message with 16 zero bits behind it, and the CRC is
-    the remainder by x^16 + 8005h.
+    the remainder.
     """
-    bits = 8 * len(message)
-    rest = (int.from_bytes(message, 'big') << 16) ^ (0x4F4E << bits)
-    divisor = 0x18005
-    while rest >> 16:
-        rest ^= divisor << (rest.bit_length() - 17)
-    return rest
+    return remainder((int.from_bytes(message, 'big') << 16) ^ (0x4F4E << 8 * len(message)))
 
 
 def number(page, first, last):
@@ -254,6 +262,18 @@ def large(n, p, **harm):
         n, answer(page, array, registers, counts, flags), digest(page), digest(counts), digest(flags))
 
 
+def known():
+    for i, value in ENTRIES:
+        # eight steps from i × 256; and 4Fh takes the start value to 4E00h, so that the next byte looks up its place alone
+        if remainder(i << 16) != value or crc(bytes([0x4F, 0x4E ^ i])) != value:
+            sys.exit('pages.py: entry %d is not %04X' % (i, value))
+        yield 'entry %d %04x' % (i, value)
+    for name, message, value in KNOWN:
+        if crc(message) != value:
+            sys.exit('pages.py: the CRC of %s is not %04X' % (name, value))
+        yield 'crc of %s %04x' % (name, value)
+
+
 def makers():
     with open(MAKERS, 'rb') as f:
         data = f.read()
@@ -451,7 +471,7 @@ def larges():
 
 
 def lines():
-    for group in (makers, random_pages, accepted, limits, bits, all_sets, single, each_byte, drawn, larges):
+    for group in (known, makers, random_pages, accepted, limits, bits, all_sets, single, each_byte, drawn, larges):
         yield from group()
 
 

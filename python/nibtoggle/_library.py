@@ -1,4 +1,4 @@
-"""The proved library by ctypes: its record, its four functions, and where it is found."""
+"""The proved library by ctypes: its record, its functions, and where it is found."""
 from __future__ import annotations
 
 import ctypes
@@ -45,7 +45,7 @@ def _candidates() -> List[Path]:
 
 
 class Library:
-    """The four functions of a libnibtoggle.so, typed."""
+    """The functions of a libnibtoggle.so, typed."""
 
     _shared: Optional["Library"] = None
 
@@ -65,6 +65,9 @@ class Library:
         self.rest = self._loaded.nib_rest
         self.rest.restype = ctypes.c_uint64
         self.rest.argtypes = [ctypes.POINTER(Target)] + 2 * lent
+        self.page_report = self._loaded.nib_page_report
+        self.page_report.restype = ctypes.c_uint32
+        self.page_report.argtypes = [ctypes.c_char_p, _size, ctypes.POINTER(ctypes.c_uint64), _size]
 
     @classmethod
     def found(cls) -> "Library":

@@ -1,1 +1,2 @@
 pub mod InLimits
+pub mod Lookup

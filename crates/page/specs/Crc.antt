@@ -35,3 +35,8 @@ crcFrom crc (byte ∷ bytes) = crcFrom (crcByte crc byte) bytes
 -- from the start value
 unfoldable pub crcOf : List ℕ → ℕ
 crcOf bytes = crcFrom 0x4f4e bytes
+
+-- n entries of the look-up table, from i on: entry i is eight bit steps from i × 256
+unfoldable pub steps : ℕ → ℕ → List ℕ
+steps zero i = []
+steps (suc n) i = crcByte (i * 2 ^ 8) 0 ∷ steps n (suc i)

@@ -1,45 +1,38 @@
-// The CRC, bit by bit.
+// The CRC, a byte at a time. What it is stands bit by bit in specs/Crc.antt.
+use crate::table::STEPS;
 ghost use mathlib.Core.Path.{_≡_};
 ghost use lib.ListN.{take};
-ghost use Rattle.page.specs.Crc.{crcBit, crcByte, crcOf};
+ghost use Rattle.page.specs.Crc.{crcByte, crcOf, steps};
 
-// One data bit.
-pub fn crc_bit(crc: u16, bit: u16) -> u16
-    ensures { λ r. ⌜ r ≡ crcBit crc bit ⌝ }
-{
-    let up = crc << 1;
-    if (crc >> 15) % 2 == bit {
-        up
-    } else {
-        up ^ 0x8005
-    }
-}
-
-// One byte, most significant bit first.
-pub fn crc_byte(crc: u16, byte: u8) -> u16
+// One byte, most significant bit first: its eight steps are one look-up.
+fn crc_byte(table: &[u16; 256], crc: u16, byte: u8) -> u16
+    requires { ⌜ now table ≡ steps 256 0 ⌝ }
     ensures { λ r. ⌜ r ≡ crcByte crc byte ⌝ }
 {
-    let wide = byte as u16;
-    let mut r = crc;
-    let mut n: u16 = 8;
-    while n > 0 {
-        n -= 1;
-        r = crc_bit(r, (wide >> n) % 2);
-    }
-    r
+    let i = (crc >> 8) ^ byte as u16;
+    (crc << 8) ^ table[i as usize]
 }
 
-// The whole slice.
-pub fn crc_of(s: &[u8]) -> u16
+// The bytes, one after the other.
+fn crc_by(table: &[u16; 256], s: &[u8]) -> u16
+    requires { ⌜ now table ≡ steps 256 0 ⌝ }
     ensures { λ r. ⌜ r ≡ crcOf (now (s .entry)) ⌝ }
 {
     let mut r: u16 = 0x4f4e;
     let mut i = 0;
     while i < s.len() {
-        r = crc_byte(r, s[i]);
+        r = crc_byte(table, r, s[i]);
         i += 1;
     }
     r
+}
+
+// The whole slice. The table is lent to the loop, since a constant's value is made anew wherever it is named.
+pub fn crc_of(s: &[u8]) -> u16
+    ensures { λ r. ⌜ r ≡ crcOf (now (s .entry)) ⌝ }
+{
+    let table = STEPS;
+    crc_by(&table, s)
 }
 
 // Bytes 0-253 of a page, fewer if there are not so many.

@@ -2,3 +2,4 @@
 pub mod crc;
 pub mod fields;
 pub mod limits;
+pub mod table;

@@ -1,6 +1,7 @@
 // Runs the parameter page's functions and power-on on many pages, and writes a line for each. The file `stdout` has the lines
 // that tools/pages.py, a second program written from document 01's words, expects; it has the same list of cases.
 use libc::STDOUT_FILENO;
+use page::crc::crc_of;
 use page::crc::page_crc;
 use page::fields::address_cycles;
 use page::fields::blocks_a_lun;
@@ -1137,7 +1138,36 @@ fn draw_pages() {
     }
 }
 
+// An entry of the CRC's table: 4Fh takes the start value to 4E00h, and the next byte looks up its place alone.
+fn entry(i: u8) {
+    small(b"entry ", i);
+    hexed(b" ", crc_of(&[0x4f, 0x4e ^ i]));
+    text(b"\n");
+}
+
+fn entries() {
+    entry(1);
+    entry(2);
+    entry(3);
+    entry(255);
+}
+
+fn known(label: &[u8], s: &[u8]) {
+    text(label);
+    hexed(b" ", crc_of(s));
+    text(b"\n");
+}
+
+fn knowns() {
+    known(b"crc of nothing", b"");
+    known(b"crc of 123456789", b"123456789");
+    known(b"crc of 254 times 00", &[0u8; 254]);
+    known(b"crc of 254 times ff", &[0xffu8; 254]);
+}
+
 fn main() {
+    entries();
+    knowns();
     makers();
     draw_pages();
     accepted();
