@@ -309,6 +309,73 @@ static inline nib_job_found nib_job_at(const uint8_t *records, size_t records_le
     return f;
 }
 
+/* ---- Other people's parameter pages ----
+ *
+ * A checker for what a part answers to ECh: 768 bytes, its parameter page three times. It looks at the first copy with good signature
+ * and CRC, and lists every rule that this copy breaks, each by its first byte: 80 data bytes, 92 pages a block, 100 LUNs, 106 the multiplier of
+ * block endurance, 110 programs a page. Power-on has limits of its own, which this doesn't look at. */
+typedef struct nib_page_check {
+    size_t copy;                /* the copy that is looked at, 0 to 2 */
+    size_t broken;              /* how many rules it breaks, 0 to 5 */
+    uint8_t rules[5];           /* their bytes, in byte order; 0 past them */
+    int has_endurance;          /* 0 where the multiplier, byte 106, is above 16 */
+    uint64_t endurance;         /* block endurance: byte 105 times ten to byte 106; 0 where there is none */
+} nib_page_check;
+
+enum nib_check_answer {
+    NIB_CHECK_DONE = 0,
+    NIB_CHECK_LENGTH = 1,       /* the answer has not 768 bytes */
+    NIB_CHECK_NO_GOOD_COPY = 2, /* given only where none of the three has good signature and CRC */
+    NIB_CHECK_ROOM = 16         /* nib_page_report: room for fewer than NIB_REPORT_LENGTH numbers */
+};
+
+enum { NIB_ANSWER_LENGTH = 768, NIB_REPORT_LENGTH = 9 };
+
+/* The check as plain numbers: copy, broken, five rules, has_endurance, endurance. Answers NIB_CHECK_DONE, and the first nine numbers are
+ * written; or another of the above, and none is. Room past nine numbers stays as it is. */
+uint32_t nib_page_report(const uint8_t *answer, size_t answer_length, uint64_t *report, size_t report_length);
+
+/* The same as a record. *c changes only where the answer is NIB_CHECK_DONE. */
+static inline uint32_t nib_check_page(nib_page_check *c, const uint8_t *answer, size_t answer_length)
+{
+    uint64_t n[NIB_REPORT_LENGTH];
+    uint32_t found = nib_page_report(answer, answer_length, n, NIB_REPORT_LENGTH);
+    if (found != NIB_CHECK_DONE)
+        return found;
+    c->copy = (size_t)n[0];
+    c->broken = (size_t)n[1];
+    for (unsigned i = 0; i < 5; i++)
+        c->rules[i] = (uint8_t)n[2 + i];
+    c->has_endurance = n[7] != 0;
+    c->endurance = n[8];
+    return found;
+}
+
+/* What stands at a rule's byte, and what it should be; "" for a byte that has no rule. */
+static inline const char *nib_rule_name(uint8_t rule)
+{
+    switch (rule) {
+    case 80: return "data bytes";
+    case 92: return "pages a block";
+    case 100: return "LUNs";
+    case 106: return "endurance multiplier";
+    case 110: return "programs a page";
+    default: return "";
+    }
+}
+
+static inline const char *nib_rule_words(uint8_t rule)
+{
+    switch (rule) {
+    case 80: return "a power of two, at least 512";
+    case 92: return "a multiple of 32";
+    case 100: return "at least 1";
+    case 106: return "at most 16";
+    case 110: return "at least 1";
+    default: return "";
+    }
+}
+
 /* Reply bytes that a trace of so many record bytes needs. */
 static inline size_t nib_replies_length(size_t records_length) { return records_length + records_length % 2; }
 

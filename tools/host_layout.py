@@ -175,6 +175,8 @@ def prototype(name, parameters, result, record):
             words.append('const uint8_t *, size_t')
         elif kind == '& mut [ usize ]':
             words.append('size_t *, size_t')
+        elif kind == '& mut [ u64 ]':
+            words.append('uint64_t *, size_t')
         elif kind in C_TYPES:
             words.append(C_TYPES[kind])
         else:
@@ -203,6 +205,7 @@ def main():
     print('#define NIB_LAYOUT_SIZE %d' % size)
     print('#define NIB_LAYOUT_ALIGNMENT %d' % alignment)
     print('#define NIB_LAYOUT_FIELDS %d' % len(places))
+    print('#define NIB_LAYOUT_FUNCTIONS %d' % len(exported))
     print('/* X(field, place, bytes) */')
     print('#define NIB_LAYOUT(X) \\')
     print(' \\\n'.join('    X(%s, %d, %d)' % place for place in places))

@@ -13,14 +13,19 @@ the cycles and reads the replies. Standard library only.
 from ._library import Library, LibraryNotFound
 from .bench import Bench, Rest
 from .jobs import Job
+from .pages import PAGE_RULES, BrokenRule, NoGoodCopy, PageCheck, WrongLength, check_page
 from .part import Part, crc, parameter_page
 from .replies import RULES, Refused, Replies, Reply, Status
 
 __all__ = [
     "Bench",
+    "BrokenRule",
     "Job",
     "Library",
     "LibraryNotFound",
+    "NoGoodCopy",
+    "PAGE_RULES",
+    "PageCheck",
     "Part",
     "RULES",
     "Refused",
@@ -28,6 +33,8 @@ __all__ = [
     "Reply",
     "Rest",
     "Status",
+    "WrongLength",
+    "check_page",
     "crc",
     "parameter_page",
 ]

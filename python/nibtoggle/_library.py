@@ -1,4 +1,4 @@
-"""The proved library by ctypes: its record, its four functions, and where it is found."""
+"""The proved library by ctypes: its record, its functions, and where it is found."""
 from __future__ import annotations
 
 import ctypes
@@ -75,6 +75,9 @@ class Library:
         self.job_misfit = self._loaded.nib_job_misfit
         self.job_misfit.restype = _size
         self.job_misfit.argtypes = [ctypes.c_char_p, _size]
+        self.page_report = self._loaded.nib_page_report
+        self.page_report.restype = ctypes.c_uint32
+        self.page_report.argtypes = [ctypes.c_char_p, _size, ctypes.POINTER(ctypes.c_uint64), _size]
 
     @classmethod
     def found(cls) -> "Library":

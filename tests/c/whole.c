@@ -363,6 +363,54 @@ static void refused_calls(void)
     close_bench(&x);
 }
 
+/* The checker for other people's pages: a good answer, the worst, a damaged first copy, no good copy, another length, short room. */
+static void checked_pages(void)
+{
+    static const uint8_t all[5] = {80, 92, 100, 106, 110};
+    static const fields f = {2048, 64, 64, 8, 1, 4, 0, 0};
+    uint8_t answer[NIB_ANSWER_LENGTH];
+    uint64_t report[10];
+    nib_page_check c;
+
+    make_page(answer, &f);
+    answer[105] = 75;
+    answer[106] = 3;
+    put_crc(answer);
+    memcpy(answer + 256, answer, 256);
+    memcpy(answer + 512, answer, 256);
+    memset(&c, 0xEE, sizeof c);
+    same("a good answer", nib_check_page(&c, answer, sizeof answer), NIB_CHECK_DONE);
+    same("its copy, and nothing broken", c.copy == 0 && c.broken == 0 && c.rules[0] == 0, 1);
+    same("its endurance", c.has_endurance ? c.endurance : 0, 75000);
+    answer[7] ^= 1;
+    same("the first copy damaged", nib_check_page(&c, answer, sizeof answer), NIB_CHECK_DONE);
+    same("the second is taken", c.copy, 1);
+    answer[256 + 7] ^= 1;
+    same("the second too", nib_check_page(&c, answer, sizeof answer) == NIB_CHECK_DONE ? c.copy : 9, 2);
+    answer[512 + 7] ^= 1;
+    same("no good copy", nib_check_page(&c, answer, sizeof answer), NIB_CHECK_NO_GOOD_COPY);
+    same("the record stays", c.copy == 2 && c.endurance == 75000, 1);
+    same("another length", nib_check_page(&c, answer, sizeof answer - 1), NIB_CHECK_LENGTH);
+    same("none", nib_check_page(&c, NULL, 0), NIB_CHECK_LENGTH);
+
+    put(answer, 80, 4, 513);
+    put(answer, 92, 4, 3);
+    answer[100] = answer[110] = 0;
+    answer[105] = 1;
+    answer[106] = 17;
+    put_crc(answer);
+    same("the worst", nib_check_page(&c, answer, sizeof answer), NIB_CHECK_DONE);
+    same("all five", c.broken, 5);
+    same("in byte order", memcmp(c.rules, all, sizeof all) == 0, 1);
+    same("no endurance", c.has_endurance == 0 && c.endurance == 0, 1);
+    same("in words", strcmp(nib_rule_name(c.rules[1]), "pages a block") == 0 && strcmp(nib_rule_words(c.rules[1]), "a multiple of 32") == 0, 1);
+    memset(report, 0xEE, sizeof report);
+    same("short room", nib_page_report(answer, sizeof answer, report, 8), NIB_CHECK_ROOM);
+    same("stays", report[0], 0xEEEEEEEEEEEEEEEEu);
+    same("more room", nib_page_report(answer, sizeof answer, report, 10), NIB_CHECK_DONE);
+    same("nine numbers", report[1] == 5 && report[6] == 110 && report[8] == 0 && report[9] == 0xEEEEEEEEEEEEEEEEu, 1);
+}
+
 int main(void)
 {
     whole_case();
@@ -371,6 +419,7 @@ int main(void)
     lost_preset(0);
     rest();
     refused_calls();
+    checked_pages();
     printf("whole: %u checks, %u failed\n", checks, failures);
     return failures != 0;
 }

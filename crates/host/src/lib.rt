@@ -1,6 +1,7 @@
 // The model for hosts in C, Python or Rust. An exported function takes no enum, and a host may write any byte into memory that
 // it owns, so the host's record is all plain numbers: it is unpacked, the proved model is asked, and the answer is packed.
 // Numbers that no record packs to stand for a target that is not powered, and stay as they are.
+pub mod checks;
 pub mod numbers;
 pub mod whole_jobs;
 
