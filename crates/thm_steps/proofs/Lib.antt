@@ -1,4 +1,5 @@
 pub mod Taken
+pub mod Places
 pub mod Reset
 pub mod Read
 pub mod Program

@@ -120,7 +120,7 @@ not-true-not true h = refl
 not-true-not false h = absurd (false≢true (sym h))
 
 module _ (t : Target) (params : List ℕ) (b : Buffers) (flags : List ℕ) where
-  command-fits : (v : ℕ) → eqb v 0xff ≡ false → Taken t params b flags (command v) → commandFits (t .decoder .sequence) v ≡ true
+  pub command-fits : (v : ℕ) → eqb v 0xff ≡ false → Taken t params b flags (command v) → commandFits (t .decoder .sequence) v ≡ true
   unfolding misplaced fits
   command-fits v other h =
       let placed = not-true-not (takesCommand (t .decoder .sequence) v) (all-passed t (command v) (taken t (command v) params b flags h .1) .rule-3) in
