@@ -1,5 +1,5 @@
 -- Document 01's "The steps", paragraph by paragraph and in its order: a record for each paragraph, a field for each sentence, stated
--- over `stepOf`. "Place" is stated by the definitions of crates/target/specs; proofs/ proves the rest.
+-- over `stepOf`. proofs/ proves them.
 use mathlib.Core.Path.{_≡_}
 use mathlib.Core.Bool.{Bool, true, false, _&&_, _||_, not}
 use mathlib.Core.List.{List}
@@ -13,6 +13,7 @@ use Rattle.target.specs.Numbers.{numberOf}
 use Rattle.target.specs.Events.{isReset}
 use Rattle.target.specs.Words.{hasFeature}
 use Rattle.target.specs.Sizes.{pageSize}
+use Rattle.target.specs.Commands.{byteOf, cyclesOf}
 use Rattle.target.specs.Address.{columnFrom, rowFrom, lunOf, lunExists}
 use Rattle.target.specs.Luns.{lunAt, works, failed, allReady}
 use Rattle.target.specs.declared.Column.{Column}
@@ -123,6 +124,14 @@ module _ (t : Target) (params : List ℕ) (b : Buffers) (flags : List ℕ) where
   -- an event that changes the registers alone
   abbrev pub LeavesRegisters : Event → List ℕ → Type 0
   LeavesRegisters e new = after e .buffers ≡ record { array = b .array; registers = new; counts = b .counts }
+
+  -- **Place.** The rest of the paragraph is the definitions of crates/target/specs, Place.antt and Views.antt.
+  pub record Place : Type 0 where
+    -- "A first command is accepted with no sequence open"
+    pub none-open : (f : First) → Taken (command (byteOf f)) → At Idle
+    -- "it ends output"; only 70h, which has no address cycle, puts out at once
+    pub ends-output : (f : First) → eqb (cyclesOf f) 0 ≡ false → Taken (command (byteOf f))
+        → after (command (byteOf f)) .target .decoder .output ≡ output.Nothing
 
   -- **Read.**
   pub record Read : Type 0 where
