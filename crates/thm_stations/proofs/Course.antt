@@ -31,7 +31,8 @@ use Rattle.target.specs.declared.views.Ender.the-variants as ender
 use Rattle.target.proofs.Both.{both}
 use Rattle.rules.specs.Rules.{fits}
 use Rattle.effects.specs.Effects.{sequenceAfter, outputAfter}
-use Rattle.thm_stations.specs.Jobs.{Cycle, command, address, dataIn, dataOut, eventOf}
+use Rattle.jobs.specs.Cycles.{Cycle, command, address, dataIn, dataOut}
+use Rattle.thm_stations.specs.Jobs.{eventOf}
 
 abbrev pub decoder : Sequence → Output → Decoder
 decoder s o = record { sequence = s; output = o }

@@ -44,7 +44,8 @@ use Rattle.step.specs.Buffers.{pageFull, blockBad, proceeds, endedFindings, fin
 use Rattle.step.specs.Step.{Buffers, replyOf, Reaches, EnderReaches}
 use Rattle.step.proofs.WorkReady.{ender-reaches}
 use Rattle.thm_kept.proofs.Choice.{by-pick}
-use Rattle.thm_stations.specs.Jobs.{Cycle, command, address, dataIn, dataOut, eventOf}
+use Rattle.jobs.specs.Cycles.{Cycle, command, address, dataIn, dataOut}
+use Rattle.thm_stations.specs.Jobs.{eventOf}
 use Rattle.thm_stations.proofs.Agreement.{RegisterAgrees, CountsAgree, SizesOf}
 use Rattle.thm_stations.proofs.OwnWork.{Mine, count-alike}
 use Rattle.thm_stations.proofs.Records.{Changed, as-were, become-by, changed-pick}

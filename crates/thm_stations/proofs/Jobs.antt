@@ -3,7 +3,7 @@
 -- Assumes nothing.
 use mathlib.Core.Path.{_≡_, refl, sym, _∙_}
 use mathlib.Core.Bool.{Bool, true, false, _&&_, _||_, not}
-use mathlib.Core.List.{List, [], _∷_}
+use mathlib.Core.List.{List, [], _∷_, _++_}
 use Prim.Native.Nat.{ℕ, zero, suc}
 use lib.ListN.{replicate}
 use lib.Dec.{eqb}
@@ -34,7 +34,8 @@ use Rattle.target.specs.declared.views.Ender.the-variants as ender
 use Rattle.target.proofs.Both.{both}
 use Rattle.effects.specs.Effects.{started, isMove, endedSequence, followed, sequenceAfter, endedOutput, shown, advanced, outputAfter}
 use Rattle.thm_kept.proofs.Choice.{by-pick}
-use Rattle.thm_stations.specs.Jobs.{Cycle, command, dataOut, eventOf, ColumnBytes, RowBytes, wholeRow, Piece, byte, move, pieces, two, three, Job, read, readOut, program, erase, status, cycles, lunNamed}
+use Rattle.jobs.specs.Cycles.{Cycle, command, dataOut, ColumnBytes, RowBytes, two, three}
+use Rattle.thm_stations.specs.Jobs.{eventOf, wholeRow, Piece, byte, move, pieces, Job, read, readOut, program, erase, status, cycles, lunNamed}
 use Rattle.thm_stations.proofs.Ties.{Quiet}
 use Rattle.thm_stations.proofs.Course.{decoder, isNobody, aimed, plain, plainly, EndedOf, GivenOf, TakerOf, OutputOf, CycleOf, Course, Spared, spared-address, spared-in, spared-out, spared-command, at-start, Alike}
 
@@ -80,6 +81,10 @@ over : (b : Bool) (v : ℕ) (c : Column) (r : Row) (rowed : Bool) → isMoved (s
     → endedSequence (pick b (endedBy v c r rowed) ender.Nothing) ≡ Idle
 over true v c r rowed h = over-with (secondOf v) c r rowed h
 over false v c r rowed h = refl
+
+-- a program's data and moves, and the command that closes it
+abbrev closedBy : ℕ → List Piece → List Cycle
+closedBy last ps = pieces ps ++ (command last ∷ [])
 
 module _ (g : Geometry) where
   -- a second command has the sequence's row
@@ -164,7 +169,7 @@ module _ (g : Geometry) where
 
   -- data and moves before it
   pieces-course : (k : Fill) (last : ℕ) → Closes last → (ps : List Piece) (o : Output)
-      → Course g (lunOf g (k .row)) (pieces last ps) (Filling k) o
+      → Course g (lunOf g (k .row)) (closedBy last ps) (Filling k) o
   unfolding Course CycleOf EndedOf GivenOf TakerOf sequenceAfter outputAfter secondOf secondRow firstOf rowOf
   pieces-course k last h [] o = last-course k last o h
   pieces-course k last h (byte v ∷ ps) o = (refl, λ _. pieces-course _ last h ps o)
@@ -172,10 +177,10 @@ module _ (g : Geometry) where
       ((refl, (refl, refl)), λ _. (tt, λ _. (refl, λ _. pieces-course _ last h ps output.Nothing)))
 
   -- no move opens a sequence
-  pieces-spared : (l last : ℕ) → Closes last → (ps : List Piece) → Spared g l (pieces last ps)
+  pieces-spared : (l last : ℕ) → Closes last → (ps : List Piece) → Spared g l (closedBy last ps)
   unfolding classOf secondRow firstOf rowOf
   pieces-spared l last h [] = second-spared l last 0 h
-  pieces-spared l last h (byte v ∷ ps) = spared-in g l (pieces last ps) (pieces-spared l last h ps) v
+  pieces-spared l last h (byte v ∷ ps) = spared-in g l (closedBy last ps) (pieces-spared l last h ps) v
   pieces-spared l last h (move b ∷ ps) =
       spared-command g l _ (spared-address g l _ (spared-address g l _ (pieces-spared l last h ps) (b .high)) (b .low)) 0x85
       refl refl
@@ -256,7 +261,7 @@ module _ (g : Geometry) where
       rw then (due-course (record { first = f; column = c; row = r }) last n output.Nothing row k)
 
   data-follows : (f : First) (c : Column) (r : Row) (last : ℕ) (ps : List Piece) → thenOf f ≡ then.Data → Closes last
-      → Behind f c r (pieces last ps) output.Nothing
+      → Behind f c r (closedBy last ps) output.Nothing
   data-follows f c r last ps then k = rw then (pieces-course _ last k ps output.Nothing)
 
   status-of : (l : ℕ) → OutputOf l (output.Status l)
@@ -288,9 +293,9 @@ module _ (g : Geometry) where
   -- a program: column and row, data and moves, its last command
   pub five-data : (v last : ℕ) (f : First) → Opens v f → takesColumn f ≡ true → thenOf f ≡ then.Data → Closes last
       → (c : ColumnBytes) (r : RowBytes) (ps : List Piece) {d e : Decoder} → Quiet d → Quiet e
-      → Alike g (lunOf g (wholeRow r)) (command v ∷ two c (three r (pieces last ps))) d e
+      → Alike g (lunOf g (wholeRow r)) (command v ∷ two c (three r (closedBy last ps))) d e
   five-data v last f k column then z c r ps p q =
-      five v f k r (pieces last ps) p q (pieces-spared (lunOf g (wholeRow r)) last z ps) column c
+      five v f k r (closedBy last ps) p q (pieces-spared (lunOf g (wholeRow r)) last z ps) column c
       (data-follows f (columnFrom (c .low) (c .high)) (wholeRow r) last ps then z)
 
   -- a status: a row, and data out

@@ -26,7 +26,8 @@ use Rattle.effects.specs.Effects.{sequenceAfter, outputAfter, lunsAfter, select
 use Rattle.step.specs.Usable.{recordSound, usable}
 use Rattle.step.specs.Buffers.{blockIndex, pageIndex, registersAfter, arrayAfter, countsAfter, blockBad, pageFull, findings, statusOf, outputByte}
 use Rattle.step.specs.Step.{replyOf, worked, acceptedBy, accepted, byVerdict, steady, stepOf}
-use Rattle.thm_stations.specs.Jobs.{ColumnBytes, RowBytes, readOut, program, status, byte, move, cycles}
+use Rattle.jobs.specs.Cycles.{ColumnBytes, RowBytes}
+use Rattle.thm_stations.specs.Jobs.{readOut, program, status, byte, move, cycles}
 use Rattle.thm_stations.specs.Mixture.{Owned, those, serial, over, start, cycle, finish, Mixture}
 use Rattle.thm_demands.specs.Runs.{after}
 use Rattle.thm_stations.specs.Isolated.{Told, log, end, Start, Isolated, Undisturbed}

@@ -7,7 +7,8 @@ use native.Mathlib.Decide.{ℕ-discrete}
 use Rattle.target.specs.declared.Event.{Event}
 use Rattle.target.specs.declared.Decoder.{Decoder}
 use Rattle.target.specs.declared.Geometry.{Geometry}
-use Rattle.thm_stations.specs.Jobs.{Cycle, eventOf, finishOf, Job, cycles, lunNamed}
+use Rattle.jobs.specs.Cycles.{Cycle}
+use Rattle.thm_stations.specs.Jobs.{eventOf, finishOf, Job, cycles, lunNamed}
 use Rattle.thm_stations.specs.Mixture.{Owned, those, Mix, over, start, cycle, finish}
 use Rattle.step.specs.Step.{State}
 use Rattle.thm_demands.specs.Runs.{stepAt, after}

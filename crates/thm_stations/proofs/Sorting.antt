@@ -12,7 +12,7 @@ use borrow.Author.Tests.{eq-eqb, ne-eqb}
 use lib.ListN.{length, length-append}
 use Rattle.target.specs.declared.Event.{Event}
 use Rattle.target.specs.declared.Geometry.{Geometry}
-use Rattle.thm_stations.specs.Jobs.{Cycle}
+use Rattle.jobs.specs.Cycles.{Cycle}
 use Rattle.thm_stations.specs.Mixture.{Owned, those, serial, Reordered, Mix, over, start, cycle, finish}
 
 module _ {A : Type 0} (l : ℕ) (x : Owned A) (xs : List (Owned A)) where

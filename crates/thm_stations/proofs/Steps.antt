@@ -24,7 +24,8 @@ use Rattle.step.specs.Step.{Buffers, Outcome, replyOf, worked, acceptedBy, acce
 use Rattle.step.proofs.Sound.{sound, Passes, passes}
 use Rattle.step.proofs.WorkReady.{work-ready}
 use Rattle.thm_kept.proofs.Kept.{step-steady}
-use Rattle.thm_stations.specs.Jobs.{Cycle, command, address, dataIn, dataOut, eventOf, finishOf}
+use Rattle.jobs.specs.Cycles.{Cycle, command, address, dataIn, dataOut}
+use Rattle.thm_stations.specs.Jobs.{eventOf, finishOf}
 use Rattle.thm_demands.specs.Runs.{stepAt}
 use Rattle.thm_stations.specs.Isolated.{lunRecord, Fine}
 use Rattle.thm_stations.proofs.Agreement.{Parts, Edited, unedited}

@@ -7,7 +7,8 @@ use Rattle.target.specs.declared.Event.{Event}
 use Rattle.target.specs.declared.Decoder.{Decoder}
 use Rattle.target.specs.declared.Geometry.{Geometry}
 use Rattle.target.specs.declared.Sequence.the-variants.{Idle}
-use Rattle.thm_stations.specs.Jobs.{Cycle, eventOf, finishOf, Job, cycles, lunNamed}
+use Rattle.jobs.specs.Cycles.{Cycle}
+use Rattle.thm_stations.specs.Jobs.{eventOf, finishOf, Job, cycles, lunNamed}
 use Rattle.step.specs.Step.{State}
 use Rattle.thm_demands.specs.Runs.{stepAt}
 use Rattle.thm_stations.specs.Isolated.{next}

@@ -23,7 +23,8 @@ use Rattle.target.specs.declared.views.Given.{Given}
 use Rattle.target.specs.declared.views.Given.the-variants as given
 use Rattle.target.proofs.Both.{both}
 use Rattle.rules.specs.Rules.{unknown, beforeReset, fits, misplaced, outOfRange, namesWorking, outputWorks, lunWorks, workFor, othersWorkFor, othersBusy, lineLow, pastEnd, notOffered, notWorking, lineHeld, rules, verdict}
-use Rattle.thm_stations.specs.Jobs.{Cycle, command, address, dataIn, dataOut, eventOf, finishOf}
+use Rattle.jobs.specs.Cycles.{Cycle, command, address, dataIn, dataOut}
+use Rattle.thm_stations.specs.Jobs.{eventOf, finishOf}
 use Rattle.thm_stations.proofs.Halves.{Fixed, made}
 use Rattle.thm_stations.proofs.Course.{decoder, isNobody, aimedFound, plain, plainly, GivenOf, OutputOf, CycleOf, Standing, equal}
 

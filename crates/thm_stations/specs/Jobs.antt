@@ -1,18 +1,15 @@
--- Whole jobs (document 01, "Whole jobs of demand 3"): the bus cycles of each, and the LUN that its row names. Bytes are free;
--- page, block and column may be out of range.
+-- Whole jobs (document 01, "Whole jobs of demand 3"), and the LUN that a job's row names. Their bus cycles are those of crate
+-- `jobs`; what demand 3 adds is the 85h moves of a program, which are no part of the jobs written and read (document 02, A5).
+-- Bytes are free; page, block and column may be out of range.
 use Prim.Native.Nat.{ℕ}
 use mathlib.Core.List.{List, [], _∷_}
-use lib.ListN.{replicate}
 use Rattle.target.specs.Address.{rowFrom, lunOf}
 use Rattle.target.specs.declared.Event.{Event}
 use Rattle.target.specs.declared.Geometry.{Geometry}
 use Rattle.target.specs.declared.Row.{Row}
+use Rattle.jobs.specs.Cycles.{Cycle, command, address, dataIn, dataOut, ColumnBytes, RowBytes, two, readCycles, readOutCycles, programCycles, eraseCycles, statusCycles}
 
--- a bus cycle
-pub data Cycle : Type 0 where
-  command address dataIn : ℕ → Cycle
-  dataOut : Cycle
-
+-- a cycle as an event
 abbrev pub eventOf : Cycle → Event
 eventOf (command v) = record { kind = 0; value = v }
 eventOf (address v) = record { kind = 1; value = v }
@@ -23,17 +20,7 @@ eventOf dataOut = record { kind = 3; value = 0 }
 abbrev pub finishOf : ℕ → Event
 finishOf l = record { kind = 4; value = l }
 
--- the two bytes of a column and the three of a row, least significant first
-pub record ColumnBytes : Type 0 where
-  pub low : ℕ
-  pub high : ℕ
-
-pub record RowBytes : Type 0 where
-  pub low : ℕ
-  pub mid : ℕ
-  pub high : ℕ
-
--- what may stand between a program's row and its last command: a data byte, or an 85h move
+-- what may stand between a program's row and its 10h: a data byte, or an 85h move
 pub data Piece : Type 0 where
   byte : ℕ → Piece
   move : ColumnBytes → Piece
@@ -45,27 +32,18 @@ pub data Job : Type 0 where
   erase : RowBytes → Job
   status : RowBytes → ℕ → Job
 
--- two and three address cycles, and then the rest
-abbrev pub two : ColumnBytes → List Cycle → List Cycle
-two c cs = address (c .low) ∷ address (c .high) ∷ cs
+-- a data byte is one cycle, a move 85h and two addresses
+abbrev pub pieces : List Piece → List Cycle
+pieces [] = []
+pieces (byte v ∷ ps) = dataIn v ∷ pieces ps
+pieces (move c ∷ ps) = command 0x85 ∷ two c (pieces ps)
 
-abbrev pub three : RowBytes → List Cycle → List Cycle
-three r cs = address (r .low) ∷ address (r .mid) ∷ address (r .high) ∷ cs
-
--- a program's data and moves, and the command that closes it
-abbrev pub pieces : ℕ → List Piece → List Cycle
-pieces last [] = command last ∷ []
-pieces last (byte v ∷ ps) = dataIn v ∷ pieces last ps
-pieces last (move c ∷ ps) = command 0x85 ∷ two c (pieces last ps)
-
--- read: 00h, five addresses, 30h; read-out: 06h, five, E0h, any number of data out; program: 80h, five, data and 85h moves with
--- two cycles each, 10h; erase: 60h, three, D0h; status: 78h, three, any number of data out
 unfoldable pub cycles : Job → List Cycle
-cycles (read c r) = command 0x00 ∷ two c (three r (command 0x30 ∷ []))
-cycles (readOut c r n) = command 0x06 ∷ two c (three r (command 0xe0 ∷ replicate n dataOut))
-cycles (program c r ps) = command 0x80 ∷ two c (three r (pieces 0x10 ps))
-cycles (erase r) = command 0x60 ∷ three r (command 0xd0 ∷ [])
-cycles (status r n) = command 0x78 ∷ three r (replicate n dataOut)
+cycles (read c r) = readCycles c r
+cycles (readOut c r n) = readOutCycles c r n
+cycles (program c r ps) = programCycles c r (pieces ps)
+cycles (erase r) = eraseCycles r
+cycles (status r n) = statusCycles r n
 
 abbrev pub wholeRow : RowBytes → Row
 wholeRow r = rowFrom (r .low) (r .mid) (r .high)

@@ -10,7 +10,8 @@ use Rattle.target.specs.declared.Reply.{Reply}
 use Rattle.target.specs.declared.Sequence.the-variants.{Idle}
 use Rattle.target.specs.declared.Output.the-variants.{Nothing}
 use Rattle.step.specs.Step.{State}
-use Rattle.thm_stations.specs.Jobs.{Cycle, command, address, dataIn, dataOut, eventOf, finishOf}
+use Rattle.jobs.specs.Cycles.{Cycle, command, address, dataIn, dataOut}
+use Rattle.thm_stations.specs.Jobs.{eventOf, finishOf}
 use Rattle.thm_stations.specs.Mixture.{Owned, those}
 use Rattle.thm_stations.specs.Isolated.{Told, log}
 

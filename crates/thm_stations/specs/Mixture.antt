@@ -7,7 +7,8 @@ use lib.Dec.{eqb}
 use Rattle.target.specs.Pick.{pick}
 use Rattle.target.specs.declared.Event.{Event}
 use Rattle.target.specs.declared.Geometry.{Geometry}
-use Rattle.thm_stations.specs.Jobs.{Cycle, eventOf, finishOf, Job, cycles, lunNamed}
+use Rattle.jobs.specs.Cycles.{Cycle}
+use Rattle.thm_stations.specs.Jobs.{eventOf, finishOf, Job, cycles, lunNamed}
 
 -- something that belongs to a LUN
 pub record Owned (A : Type 0) : Type 0 where
