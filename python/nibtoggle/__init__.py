@@ -11,14 +11,24 @@ Every event is answered by the proved library (libnibtoggle.so, which `tools/bui
 the cycles and reads the replies. Standard library only.
 """
 from ._library import Library, LibraryNotFound
-from .bench import Bench, Rest
+from .bench import Bench, Rest, UnwrittenZeros
+from .folder import FolderError
 from .part import Part, crc, parameter_page
+from .parts import PARTS, KnownPart
 from .replies import RULES, Refused, Replies, Reply, Status
+from .text import BadWord, records_of, text_of
+
+#: As VERSION has it; tools/version sets it everywhere.
+__version__ = "0.2.0"
 
 __all__ = [
+    "BadWord",
     "Bench",
+    "FolderError",
+    "KnownPart",
     "Library",
     "LibraryNotFound",
+    "PARTS",
     "Part",
     "RULES",
     "Refused",
@@ -26,6 +36,10 @@ __all__ = [
     "Reply",
     "Rest",
     "Status",
+    "UnwrittenZeros",
+    "__version__",
     "crc",
     "parameter_page",
+    "records_of",
+    "text_of",
 ]

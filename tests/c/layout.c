@@ -21,6 +21,6 @@ _Static_assert((0 NIB_LAYOUT(BYTES)) == offsetof(nib_target, output) + sizeof(((
 int main(void)
 {
     printf("layout: %d fields in %d bytes, %d with padding, and %d functions' types, as proved\n", NIB_LAYOUT_FIELDS, 0 NIB_LAYOUT(BYTES),
-           NIB_LAYOUT_SIZE, 4);
+           NIB_LAYOUT_SIZE, NIB_LAYOUT_FUNCTIONS);
     return 0;
 }
