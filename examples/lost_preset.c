@@ -17,15 +17,21 @@ static uint8_t array[33792], registers[1056], counts[64], flags[16];
 static const nib_lent lent = {page, sizeof page, array, sizeof array, registers, sizeof registers, counts, sizeof counts,
                               flags, sizeof flags};
 
-static void send(nib_target *t, const uint8_t *records, size_t length)
+/* Whether the records were run; each refusal is told. */
+static int send(nib_target *t, const uint8_t *records, size_t length)
 {
     uint8_t replies[64];
-    nib_lent_trace(t, &lent, records, length, replies, sizeof replies);
+    uint32_t answer = nib_lent_trace(t, &lent, records, length, replies, sizeof replies);
+    if (answer != 0) {
+        printf("nothing was run, %u: %s\n", (unsigned)answer, nib_words(answer));
+        return 0;
+    }
     for (size_t i = 0; i < length; i += 2)
         if (replies[i] == 2)
             printf("record %zu refused with %u: %s\n", i / 2, replies[i + 1], nib_words(replies[i + 1]));
         else if (replies[i] == 1)
             printf(" %02X", replies[i + 1]);
+    return 1;
 }
 
 int main(void)
@@ -41,11 +47,14 @@ int main(void)
         nib_target t;
         memset(array, 0xFF, sizeof array);
         memset(counts, 0, sizeof counts);
-        if (nib_lent_power_on(&t, &lent, 0x68) != 0)
+        uint32_t answer = nib_lent_power_on(&t, &lent, 0x68);
+        if (answer != 0) {
+            printf("power-on refused with %u: %s\n", (unsigned)answer, nib_words(answer));
             return 1;
+        }
         printf("program-clear %s: A reads", clear ? "on" : "off");
-        send(&t, clear ? on : off, clear ? sizeof on : sizeof off);
-        send(&t, story, sizeof story);
+        if (!send(&t, clear ? on : off, clear ? sizeof on : sizeof off) || !send(&t, story, sizeof story))
+            return 1;
         printf(", and its page has %02X %02X\n", array[0], array[1]);
     }
     return 0;

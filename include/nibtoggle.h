@@ -3,10 +3,11 @@
  * Bus cycles go in; replies, status and array contents come out. docs/MODEL.md of the repository has all of the
  * model's rules: events and replies, the commands, addresses, refusals, and what a driver meets.
  *
- * The functions below that are not inline are compiled from proved code: what they answer, and every byte that they leave in the
- * record and in the buffers, is settled by definitions (crates/host/specs). They allocate nothing, keep nothing
- * between calls, read no clock and call nothing but memcpy, memmove, memset and the like of the C library, so any
- * number of targets may be used at once, each by one thread at a time.
+ * The functions below that are not inline are compiled from proved code. What nib_power_on, nib_event, nib_trace and
+ * nib_rest answer, and every byte that they leave in the record and in the buffers, is settled by definitions
+ * (crates/host/specs). They allocate nothing, keep nothing between calls, read no clock and call nothing but memcpy,
+ * memmove, memset and the like of the C library, so any number of targets may be used at once, each by one thread at a
+ * time.
  *
  * WHAT THE CALLER LENDS. A target is a record (nib_target) and five buffers, all the caller's own:
  *
@@ -16,7 +17,8 @@
  *   counts      LUNs * blocks * pages bytes, how often each page was programmed since its block was erased
  *   flags       LUNs * blocks bytes, 0 a good block, 1 a factory bad one
  *
- * nib_part_of(), nib_array_length() and their like below give these numbers from the parameter bytes.
+ * nib_part_of() below gives the part from the parameter bytes, and nib_array_length(), nib_registers_length(),
+ * nib_counts_length() and nib_flags_length() give these numbers from the part.
  *
  * WHAT THE CALLER OWES, and nothing else. Of each pointer and the length after it: that many bytes are there,
  * readable, and writable where the pointer is not const; the record is a whole nib_target, aligned as its type
@@ -38,17 +40,23 @@
 extern "C" {
 #endif
 
+/* The version of this header; nib_version() is that of the library, and has the same number: major, minor and patch,
+ * a byte each. While major is 0, a change of minor may change the record. */
+#define NIB_VERSION "0.2.0"
+#define NIB_VERSION_NUMBER UINT32_C(512)
+uint32_t nib_version(void);
+
 /* ---- The record ----
  *
- * Plain numbers: it may be copied, stored, compared byte by byte (padding aside) and written to a file for the same kind of
- * machine. A new record is made by nib_power_on, which reads nothing of what was there before. Reading it is welcome; whoever
- * writes to it gets 13, or a target in the state that was written. 104 bytes where size_t has 8. */
+ * Plain numbers: it may be copied, stored, compared byte by byte (padding aside) and written to a file for the same
+ * kind of machine. A new record is made by nib_power_on, which reads nothing of what was there before. Reading it is
+ * welcome; whoever writes to it gets 13, or a target in the state that was written. 104 bytes where size_t has 8. */
 typedef struct nib_target {
     /* The part, as its page says. */
     uint16_t data_bytes;    /* of a page: 16 to 16384 */
     uint16_t spare_bytes;   /* of a page: 0 to 2048 */
     uint16_t features;      /* features supported: bytes 6 and 7, of which enum nib_feature names bits */
-    uint16_t optional_commands;     /* optional commands supported: bytes 8 and 9, of which enum nib_optional names bits */
+    uint16_t optional_commands;     /* optional commands supported: bytes 8 and 9; enum nib_optional names bits */
     size_t pages;           /* a block */
     size_t blocks;          /* a LUN */
     size_t luns;            /* 1 to 4 */
@@ -174,25 +182,25 @@ enum nib_refusal_number {
 static inline const char *nib_words(unsigned refusal)
 {
     switch (refusal) {
-    case 1: return "command byte not known or not offered";
+    case 1: return "command byte not known, or not offered by this part";
     case 2: return "bus cycle other than FFh before the first FFh";
-    case 3: return "cycle does not fit the place reached";
+    case 3: return "known cycle that doesn't fit the place reached";
     case 4: return "row, column, feature or identification address not in range";
     case 5: return "the LUN is working";
-    case 6: return "a LUN is working that the command can't have working";
+    case 6: return "a LUN is working; for 70h, one other than the selected LUN";
     case 7: return "10h or D0h with the protect line low";
     case 8: return "data in or out past the end";
     case 9: return "feature byte not offered";
     case 10: return "finish of a LUN that is not working or doesn't exist";
     case 11: return "protect event while a LUN works or a sequence is open";
     case 12: return "bad record";
-    case 13: return "target not powered, or a length or a number in the record that can't be";
+    case 13: return "target not powered, or a length or a number of the record that can't be";
     case 16: return "reply room too short";
     case 20: return "the parameter bytes are not 256";
-    case 21: return "the parameter bytes do not start with ONFI";
-    case 22: return "CRC of the parameter bytes";
+    case 21: return "the parameter bytes don't start with ONFI";
+    case 22: return "the CRC is not that of the parameter bytes";
     case 23: return "a field of the parameter bytes is outside its limits";
-    case 24: return "length of array, registers, counts or flags";
+    case 24: return "a buffer's length is not what the parameter bytes give";
     case 25: return "a count above programs a page, or a flag above 1";
     default: return "";
     }
@@ -200,11 +208,20 @@ static inline const char *nib_words(unsigned refusal)
 
 /* ---- The functions ---- */
 
+/* An answer that is not looked at is warned of, where the compiler can: power-on may be refused, and a trace not
+ * run. */
+#if defined(__GNUC__)
+#define NIB_LOOK __attribute__((warn_unused_result))
+#else
+#define NIB_LOOK
+#endif
+
 /* Power-on. Answers 0, or the refusal, 20 to 25 (a plain number here, with no 200h). Whatever *t held before is
  * replaced: by the first record of a powered target where the answer is 0, and by an unpowered one, all numbers 0,
  * where it is not. On success the registers are filled with FFh; no other lent byte ever changes, and none at all
  * on a refusal. device_id is the second byte that 90h with 00h gives (the first stands in the parameter bytes). The
  * array's bytes are not looked at. */
+NIB_LOOK
 uint32_t nib_power_on(nib_target *t, const uint8_t *page, size_t page_length, uint8_t device_id,
                       const uint8_t *array, size_t array_length, uint8_t *registers, size_t registers_length,
                       const uint8_t *counts, size_t counts_length, const uint8_t *flags, size_t flags_length);
@@ -220,6 +237,7 @@ uint32_t nib_event(nib_target *t, uint8_t kind, uint8_t value, const uint8_t *pa
  * 16 where replies_length is less than nib_replies_length(records_length), and then nothing is run and nothing
  * changes. Reply bytes past those needed stay as they are. Record, buffers and replies are what nib_event gives
  * record by record; a trace is the quick way for many. */
+NIB_LOOK
 uint32_t nib_trace(nib_target *t, const uint8_t *records, size_t records_length,
                    uint8_t *replies, size_t replies_length, const uint8_t *page, size_t page_length,
                    uint8_t *array, size_t array_length,
@@ -242,8 +260,8 @@ static inline size_t nib_rest_length(uint64_t rest) { return (size_t)(rest & 0x3
 
 /* ---- Whole jobs ----
  *
- * The records of a job written, and records grouped back into jobs, by proved code: nobody has to put cycles together by hand.
- * Row and column are plain numbers; nib_row() below gives a row. No function here needs a target.
+ * The records of a job written, and records grouped back into jobs, by proved code: nobody has to put cycles together
+ * by hand. Row and column are plain numbers; nib_row() below gives a row. No function here needs a target.
  *
  *   NIB_JOB_READ       00h, five addresses, 30h                       14 bytes of records
  *   NIB_JOB_READ_OUT   06h, five addresses, E0h, count data out       14 + 2 * count
@@ -266,16 +284,16 @@ enum nib_job_answer {
     NIB_JOB_TOO_SMALL = 2       /* room_length is less than the records take */
 };
 
-/* The job's records, at the front of the room. Answers how many bytes they are (8 at least), or one of the three above, and
- * then nothing is written. Room past the records stays as it is. What a job does not have (the column of an erase, the count of a
- * read, the bytes of another job than a program) is not looked at. */
+/* The job's records, at the front of the room. Answers how many bytes they are (8 at least), or one of the three
+ * above, and then nothing is written. Room past the records stays as it is. What a job does not have (the column of
+ * an erase, the count of a read, the bytes of another job than a program) is not looked at. */
 size_t nib_job_write(uint8_t kind, size_t column, size_t row, size_t count, const uint8_t *bytes, size_t bytes_length,
                      uint8_t *room, size_t room_length);
 
-/* What stands at record number `at` of a list of records, in NIB_JOB_NUMBERS numbers, as nib_job_found has them. Answers the
- * first of them, nib_job_kind; or 7 where numbers_length is less than that, and then nothing is written. Reading what was written
- * gives the job back; all data out belongs to the read-out or status before it. An 85h move, a finish event and every other
- * cycle is a misfit. */
+/* What stands at record number `at` of a list of records, in NIB_JOB_NUMBERS numbers, as nib_job_found has them.
+ * Answers the first of them, nib_job_kind; or 7 where numbers_length is less than that, and then nothing is written.
+ * Reading what was written gives the job back; all data out belongs to the read-out or status before it. An 85h move,
+ * a finish event and every other cycle is a misfit. */
 size_t nib_job_read(const uint8_t *records, size_t records_length, size_t at, size_t *numbers, size_t numbers_length);
 
 enum { NIB_JOB_NUMBERS = 6 };
@@ -284,13 +302,13 @@ typedef struct nib_job_found {
     size_t kind;                /* enum nib_job_kind */
     size_t column, row;
     size_t count;               /* data cycles: out for a read-out or a status, in for a program */
-    size_t place;               /* a program's bytes are the values of count records, the first of them record number place */
-    size_t next;                /* the place after the job; of a misfit the first record that does not fit, or the place after the
-                                   last where the list stops inside the job */
+    size_t place;               /* a program's bytes are the values of count records, from record number place on */
+    size_t next;                /* the place after the job; of a misfit the first record that does not fit, or the place
+                                   after the last where the list stops inside the job */
 } nib_job_found;
 
-/* The first record of a list that does not fit, or the place after the last where it stops inside a job; NIB_JOB_NO_MISFIT
- * where the list is whole jobs, none or more. */
+/* The first record of a list that does not fit, or the place after the last where it stops inside a job;
+ * NIB_JOB_NO_MISFIT where the list is whole jobs, none or more. */
 size_t nib_job_misfit(const uint8_t *records, size_t records_length);
 
 #define NIB_JOB_NO_MISFIT SIZE_MAX
@@ -311,9 +329,10 @@ static inline nib_job_found nib_job_at(const uint8_t *records, size_t records_le
 
 /* ---- Other people's parameter pages ----
  *
- * A checker for what a part answers to ECh: 768 bytes, its parameter page three times. It looks at the first copy with good signature
- * and CRC, and lists every rule that this copy breaks, each by its first byte: 80 data bytes, 92 pages a block, 100 LUNs, 106 the multiplier of
- * block endurance, 110 programs a page. Power-on has limits of its own, which this doesn't look at. */
+ * A checker for what a part answers to ECh: 768 bytes, its parameter page three times. It looks at the first copy
+ * with good signature and CRC, and lists every rule that this copy breaks, each by its first byte: 80 data bytes, 92
+ * pages a block, 100 LUNs, 106 the multiplier of block endurance, 110 programs a page. Power-on has limits of its
+ * own, which this doesn't look at. */
 typedef struct nib_page_check {
     size_t copy;                /* the copy that is looked at, 0 to 2 */
     size_t broken;              /* how many rules it breaks, 0 to 5 */
@@ -331,8 +350,8 @@ enum nib_check_answer {
 
 enum { NIB_ANSWER_LENGTH = 768, NIB_REPORT_LENGTH = 9 };
 
-/* The check as plain numbers: copy, broken, five rules, has_endurance, endurance. Answers NIB_CHECK_DONE, and the first nine numbers are
- * written; or another of the above, and none is. Room past nine numbers stays as it is. */
+/* The check as plain numbers: copy, broken, five rules, has_endurance, endurance. Answers NIB_CHECK_DONE, and the
+ * first nine numbers are written; or another of the above, and none is. Room past nine numbers stays as it is. */
 uint32_t nib_page_report(const uint8_t *answer, size_t answer_length, uint64_t *report, size_t report_length);
 
 /* The same as a record. *c changes only where the answer is NIB_CHECK_DONE. */
@@ -431,6 +450,22 @@ static inline uint32_t nib_row(nib_part p, size_t lun, size_t block, size_t page
     return (uint32_t)(lun << (page_bits + block_bits) | block << page_bits | page);
 }
 
+/* Whether there is such a page. */
+static inline int nib_page_exists(nib_part p, size_t lun, size_t block, size_t page)
+{
+    return lun < p.luns && block < p.blocks && page < p.pages;
+}
+
+/* nib_row, looked at first: 1 and *row where the page exists; 0 where it does not, and *row stays as it is. (nib_row
+ * takes any numbers, and those of a page that does not exist may be another page's row.) */
+static inline int nib_row_of(nib_part p, size_t lun, size_t block, size_t page, uint32_t *row)
+{
+    if (!nib_page_exists(p, lun, block, page))
+        return 0;
+    *row = nib_row(p, lun, block, page);
+    return 1;
+}
+
 /* ---- All that is lent, held together: the same calls with fewer words ---- */
 
 typedef struct nib_lent {
@@ -446,6 +481,7 @@ typedef struct nib_lent {
     size_t flags_length;
 } nib_lent;
 
+NIB_LOOK
 static inline uint32_t nib_lent_power_on(nib_target *t, const nib_lent *b, uint8_t device_id)
 {
     return nib_power_on(t, b->page, b->page_length, device_id, b->array, b->array_length,
@@ -458,6 +494,7 @@ static inline uint32_t nib_lent_event(nib_target *t, const nib_lent *b, uint8_t 
                      b->registers, b->registers_length, b->counts, b->counts_length, b->flags, b->flags_length);
 }
 
+NIB_LOOK
 static inline uint32_t nib_lent_trace(nib_target *t, const nib_lent *b, const uint8_t *records, size_t records_length,
                                       uint8_t *replies, size_t replies_length)
 {
@@ -470,6 +507,49 @@ static inline uint64_t nib_lent_rest(const nib_target *t, const nib_lent *b)
 {
     return nib_rest(t, b->page, b->page_length, b->registers, b->registers_length);
 }
+
+/* ---- Text and words ----
+ *
+ * A trace as people write it, as nib reads and writes it, and events, replies and refusals in words, as nib explain
+ * tells them. A text is given byte by byte, and a line end after its last byte; so is a trace that is to be text. How
+ * far it has come is a number, 0 at the start. */
+
+/* What has been read after one byte more of a text. */
+uint64_t nib_text_next(uint64_t state, uint8_t byte);
+
+/* What that byte adds to the trace: enum nib_said times 65,536, and the value. Ask before nib_text_next, with the
+ * same state. */
+uint64_t nib_text_said(uint64_t state, uint8_t byte);
+
+enum nib_said {
+    NIB_SAID_NOTHING = 0,
+    NIB_SAID_RECORD = 1,        /* value: the record's kind times 256, and its value */
+    NIB_SAID_BYTE = 2,          /* value: a byte of the trace as it is */
+    NIB_SAID_OUTS = 3,          /* value: so many data outs */
+    NIB_SAID_WRONG = 4          /* value: why the word is bad, 1 to 5, for nib_say_wrong */
+};
+
+/* 1 where that byte begins a word, else 0: an error names the last one that began. */
+uint8_t nib_text_begins(uint64_t state, uint8_t byte);
+
+/* What has been written after one byte more of a trace, and the text of that byte; then the text of the trace's end.
+ * Each of these, and of the words below, writes at most length bytes to out, with no 0 after them, and answers how
+ * many: 128 are room for each. */
+uint64_t nib_back_next(uint64_t state, uint8_t byte);
+size_t nib_back_text(uint64_t state, uint8_t byte, uint8_t *out, size_t length);
+size_t nib_back_end(uint64_t state, uint8_t *out, size_t length);
+
+/* A record in words; where odd is not 0, its first byte alone, as the odd last byte of a trace. */
+size_t nib_say_event(uint8_t odd, uint8_t kind, uint8_t value, uint8_t *out, size_t length);
+
+/* A reply in words. lun is the LUN that the event was about, which refusal 5 names. */
+size_t nib_say_reply(uint8_t first, uint8_t second, size_t lun, uint8_t *out, size_t length);
+
+/* A refusal's rule in words, those of nib_words; none where no rule has the number. */
+size_t nib_say_rule(uint8_t number, uint8_t *out, size_t length);
+
+/* Why a word of a text is bad. */
+size_t nib_say_wrong(uint8_t which, uint8_t *out, size_t length);
 
 #ifdef __cplusplus
 }

@@ -1,9 +1,9 @@
 #!/usr/bin/env python3
 """What the prover and its compiler have of the exported record and functions, as a C header for tests/c/layout.c.
 
-    python3 tools/host_layout.py target/rlib/host.rlib module.ll nib_ > layout.h
+    python3 tools/host_layout.py nib_ target/rlib/host.rlib host.ll [RLIB MODULE..] > layout.h
 
-Three sources that `rt` wrote, and they must agree:
+The first library has the record; the functions of all are told. Three sources that `rt` wrote, and they must agree:
 
 - the proved library's interface (host.rlib/lang/src): the names of the record's fields, in order, and the functions'
   types;
@@ -40,7 +40,7 @@ def interface(rlib):
 def functions(text, prefix):
     """The exported functions: name -> (parameters as (name, type), result)."""
     found = {}
-    pattern = r'# \[ no_mangle \] pub extern "C" fn (%s\w+) \( (.*?) \) -> (\w+)' % re.escape(prefix)
+    pattern = r'# \[ no_mangle \] pub extern "C" fn (%s\w+) \(([^()]*)\) -> (\w+)' % re.escape(prefix)
     for name, inside, result in re.findall(pattern, text):
         parameters = [part.strip().split(' : ', 1) for part in inside.split(' , ') if part.strip(' ,')]
         found[name] = ([(n, t.strip(' ,')) for n, t in parameters], result)
@@ -181,13 +181,13 @@ def prototype(name, parameters, result, record):
             words.append(C_TYPES[kind])
         else:
             fail('%s: parameter %s is a %s' % (name, parameter, kind))
-    return '%s %s(%s);' % (C_TYPES[result], name, ', '.join(words))
+    return '%s %s(%s);' % (C_TYPES[result], name, ', '.join(words) or 'void')
 
 
 def main():
-    if len(sys.argv) != 4:
+    if len(sys.argv) < 4 or len(sys.argv) % 2:
         sys.exit(__doc__)
-    rlib, module_file, prefix = sys.argv[1:]
+    prefix, rlib, module_file = sys.argv[1:4]
     text = interface(rlib)
     exported = functions(text, prefix)
     record = record_name(exported)
@@ -199,8 +199,15 @@ def main():
         module = file.read()
     check_exports(module, exported)
     made = check_module(module, places, size)
+    for rlib, module_file in zip(sys.argv[4::2], sys.argv[5::2]):
+        more = functions(interface(rlib), prefix)
+        with open(module_file, encoding='utf-8') as file:
+            check_exports(file.read(), more)
+        if set(more) & set(exported):
+            fail('%s are exported twice' % sorted(set(more) & set(exported)))
+        exported.update(more)
 
-    print('/* Written by tools/host_layout.py from the proved library and its LLVM module '
+    print('/* Written by tools/host_layout.py from the proved libraries and their LLVM modules '
           '(%d places there make a record). */' % made)
     print('#define NIB_LAYOUT_SIZE %d' % size)
     print('#define NIB_LAYOUT_ALIGNMENT %d' % alignment)

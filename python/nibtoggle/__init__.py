@@ -11,20 +11,30 @@ Every event is answered by the proved library (libnibtoggle.so, which `tools/bui
 the cycles and reads the replies. Standard library only.
 """
 from ._library import Library, LibraryNotFound
-from .bench import Bench, Rest
+from .bench import Bench, Rest, UnwrittenZeros
+from .folder import FolderError
 from .jobs import Job
 from .pages import PAGE_RULES, BrokenRule, NoGoodCopy, PageCheck, WrongLength, check_page
 from .part import Part, crc, parameter_page
+from .parts import PARTS, KnownPart
 from .replies import RULES, Refused, Replies, Reply, Status
+from .text import BadWord, records_of, text_of
+
+#: As VERSION has it; tools/version sets it everywhere.
+__version__ = "0.2.0"
 
 __all__ = [
+    "BadWord",
     "Bench",
     "BrokenRule",
+    "FolderError",
     "Job",
+    "KnownPart",
     "Library",
     "LibraryNotFound",
     "NoGoodCopy",
     "PAGE_RULES",
+    "PARTS",
     "PageCheck",
     "Part",
     "RULES",
@@ -33,8 +43,12 @@ __all__ = [
     "Reply",
     "Rest",
     "Status",
+    "UnwrittenZeros",
     "WrongLength",
+    "__version__",
     "check_page",
     "crc",
     "parameter_page",
+    "records_of",
+    "text_of",
 ]

@@ -4,11 +4,12 @@ from __future__ import annotations
 import ctypes
 import os
 from pathlib import Path
-from typing import List, Optional, Union
+from typing import Any, List, Optional, Type, Union
 
 _size = ctypes.c_size_t
 _byte = ctypes.c_uint8
 _bytes = ctypes.c_void_p
+_Types = List[Type["ctypes._CData"]]
 
 
 class Target(ctypes.Structure):
@@ -49,35 +50,73 @@ class Library:
     """The functions of a libnibtoggle.so, typed."""
 
     _shared: Optional["Library"] = None
+    _first: Optional["Library"] = None
 
     def __init__(self, path: Union[str, os.PathLike[str]]) -> None:
         self.path = os.fspath(path)
         self._loaded = ctypes.CDLL(self.path)
-        lent = [_bytes, _size]
+        record: _Types = [ctypes.POINTER(Target)]
+        lent: _Types = [_bytes, _size]
+        byte: _Types = [_byte]
+        trace: _Types = [ctypes.c_char_p, _size]
         self.power_on = self._loaded.nib_power_on
         self.power_on.restype = ctypes.c_uint32
-        self.power_on.argtypes = [ctypes.POINTER(Target)] + lent + [_byte] + 4 * lent
+        self.power_on.argtypes = record + lent + byte + 4 * lent
         self.event = self._loaded.nib_event
         self.event.restype = ctypes.c_uint32
-        self.event.argtypes = [ctypes.POINTER(Target), _byte, _byte] + 5 * lent
+        self.event.argtypes = record + 2 * byte + 5 * lent
         self.trace = self._loaded.nib_trace
         self.trace.restype = ctypes.c_uint32
-        self.trace.argtypes = [ctypes.POINTER(Target), ctypes.c_char_p, _size] + 6 * lent
+        self.trace.argtypes = record + trace + 6 * lent
         self.rest = self._loaded.nib_rest
         self.rest.restype = ctypes.c_uint64
-        self.rest.argtypes = [ctypes.POINTER(Target)] + 2 * lent
-        self.job_write = self._loaded.nib_job_write
-        self.job_write.restype = _size
-        self.job_write.argtypes = [_byte, _size, _size, _size, ctypes.c_char_p, _size, ctypes.c_char_p, _size]
-        self.job_read = self._loaded.nib_job_read
-        self.job_read.restype = _size
-        self.job_read.argtypes = [ctypes.c_char_p, _size, _size, ctypes.POINTER(ctypes.c_size_t), _size]
-        self.job_misfit = self._loaded.nib_job_misfit
-        self.job_misfit.restype = _size
-        self.job_misfit.argtypes = [ctypes.c_char_p, _size]
-        self.page_report = self._loaded.nib_page_report
-        self.page_report.restype = ctypes.c_uint32
-        self.page_report.argtypes = [ctypes.c_char_p, _size, ctypes.POINTER(ctypes.c_uint64), _size]
+        self.rest.argtypes = record + 2 * lent
+        self._jobs()
+        self._speech()
+        if Library._first is None:
+            Library._first = self
+
+    def _jobs(self) -> None:
+        """Whole jobs as records and back, and the checker for other people's pages."""
+        trace: _Types = [ctypes.c_char_p, _size]
+        self.job_write = self._typed("nib_job_write", _size, [_byte, _size, _size, _size] + 2 * trace)
+        self.job_read = self._typed("nib_job_read", _size, trace + [_size, ctypes.POINTER(ctypes.c_size_t), _size])
+        self.job_misfit = self._typed("nib_job_misfit", _size, trace)
+        self.page_report = self._typed("nib_page_report", ctypes.c_uint32,
+                                       trace + [ctypes.POINTER(ctypes.c_uint64), _size])
+
+    def _speech(self) -> None:
+        """The grammar of the text and the words of `explain`."""
+        room: _Types = [ctypes.c_char_p, _size]
+        state: _Types = [ctypes.c_uint64]
+        byte: _Types = [_byte]
+        self.version = self._typed("nib_version", ctypes.c_uint32, [])
+        self.text_next = self._typed("nib_text_next", ctypes.c_uint64, state + byte)
+        self.text_said = self._typed("nib_text_said", ctypes.c_uint64, state + byte)
+        self.text_begins = self._typed("nib_text_begins", _byte, state + byte)
+        self.back_next = self._typed("nib_back_next", ctypes.c_uint64, state + byte)
+        self.back_text = self._typed("nib_back_text", _size, state + byte + room)
+        self.back_end = self._typed("nib_back_end", _size, state + room)
+        self.say_event = self._typed("nib_say_event", _size, 3 * byte + room)
+        self.say_reply = self._typed("nib_say_reply", _size, 2 * byte + [_size] + room)
+        self.say_rule = self._typed("nib_say_rule", _size, byte + room)
+        self.say_wrong = self._typed("nib_say_wrong", _size, byte + room)
+
+    def _typed(self, name: str, result: Type["ctypes._CData"], arguments: _Types) -> Any:
+        function = getattr(self._loaded, name)
+        function.restype, function.argtypes = result, arguments
+        return function
+
+    def words(self, say: Any, *numbers: int) -> str:
+        """What a function of words writes, given its numbers."""
+        room = ctypes.create_string_buffer(256)
+        written: int = say(*numbers, room, len(room))
+        return room.raw[:written].decode("ascii")
+
+    @classmethod
+    def any(cls) -> "Library":
+        """A library that is loaded already, and else the one that is found: all have the same words."""
+        return cls._shared or cls._first or cls.found()
 
     @classmethod
     def found(cls) -> "Library":

@@ -5,18 +5,21 @@ import ctypes
 import mmap
 import os
 import tempfile
-from typing import Iterable, NamedTuple, Optional, Tuple, Union
+import warnings
+from pathlib import Path
+from types import TracebackType
+from typing import Iterable, List, NamedTuple, Optional, Tuple, Type, Union
 
-from . import jobs
+from . import checks, folder, jobs, parts
 from ._library import Library, Target
-from .part import Part, parameter_page
+from .folder import LARGE, Buffer
+from .part import PAGE_LENGTH, Part, fields_outside, parameter_page
 from .replies import ADDRESS, COMMAND, DATA_IN, DATA_OUT, FINISH, PROTECT, Refused, Replies, Reply, Status
 
-Buffer = Union[bytes, bytearray, memoryview, mmap.mmap]
 Store = Union[None, Buffer, str, "os.PathLike[str]"]
 
-#: An array longer than this is a sparse file by itself.
-LARGE = 64 << 20
+class UnwrittenZeros(UserWarning):
+    """A new array is so large that it is a sparse file: what nobody wrote is 00h, and not FFh as in an erased part."""
 
 
 class Rest(NamedTuple):
@@ -49,9 +52,10 @@ class Bench:
 
     `page` is the part's 256 parameter bytes and `device_id` the second byte of its ID. The buffers are made here if they are not given:
 
-    - `array`: None for an erased array (FFh) in memory, or, past 64 MiB, in a sparse temporary file; a path for an array kept in a
-      file, made sparse where there is none or it is empty; or a buffer of the right length, used in place (bytes are copied). What nobody
-      wrote to a sparse file is 00h: erase a block before programming it, as a loader does with a part it knows nothing of.
+    - `array`: None for an array of its own, in memory or, past 64 MiB, in a temporary file; a path for an array kept in a file, which is
+      made where there is none or it is empty; or a buffer of the right length, used in place (bytes are copied). An array that is made
+      here is erased, all FFh, up to 64 MiB. A longer one is a sparse file that reads 00h where nobody wrote, and UnwrittenZeros is
+      warned with its name: erase a block before programming it, as a loader does with a part it knows nothing of.
     - `counts`, `flags`: buffers of the right length, used in place (bytes are copied); None for all 0: nothing programmed, no bad
       block.
 
@@ -65,17 +69,19 @@ class Bench:
     def __init__(self, page: bytes, device_id: int, *, array: Store = None, counts: Optional[Buffer] = None,
                  flags: Optional[Buffer] = None, strict: bool = True, library: Optional[Library] = None) -> None:
         self.strict = strict
-        self.device_id = device_id
+        self.device_id = checks.byte("device ID", device_id)
         self.replies = Replies(b"")
         self._library = library if library is not None else Library.found()
         self._map: Optional[mmap.mmap] = None
+        #: The part folder that `save` saves to, where there is one.
+        self.folder: Optional[Path] = None
+        self._base: Optional[int] = None
         self._target = Target()
         self._page = _Lent(bytearray(page))
-        # where the page says nothing the lengths decide nothing: power-on refuses before it looks at them
-        self.part = Part.of(page) if len(page) == 256 else Part(0, 0, 0, 0, 0)
-        sensible = self.part.page_size <= 18432 and self.part.pages <= 256 and self.part.blocks <= 4096
-        part = self.part if sensible else Part(0, 0, 0, 0, 0)
-        self._array = _Lent(self._store(array, part.array_length))
+        # a page that power-on refuses whatever the buffers are asks for none, and no file is made for it
+        refused = self._page_refused()
+        part = self.part = Part(0, 0, 0, 0, 0) if refused else Part.of(page)
+        self._array = _Lent(bytearray() if refused else self._store(array, part.array_length))
         self._registers = _Lent(bytearray(part.registers_length))
         self._counts = _Lent(counts if counts is not None else bytearray(part.counts_length))
         self._flags = _Lent(flags if flags is not None else bytearray(part.flags_length))
@@ -86,24 +92,55 @@ class Bench:
         """The worked part T1: 512+16 bytes a page, 4 pages a block, 8 blocks, 2 LUNs, every option. Other words go to Bench."""
         return cls(parameter_page(), 0x68, strict=strict, **options)  # type: ignore[arg-type]
 
+    @classmethod
+    def open(cls, path: Union[str, "os.PathLike[str]"], *, strict: bool = True, library: Optional[Library] = None) -> "Bench":
+        """The part of a folder that `nib new` or `Bench.new` made (docs/PARTS.md), powered on.
+
+        The folder stays as it is until `save`. Used by `with`, it is saved at the end unless an exception comes out.
+        """
+        where = Path(path)
+        page, device_id = folder.read_page(where), folder.read_id(where)
+        refusal = page_refusal(page, library)
+        if refusal is not None:
+            raise refusal
+        files = folder.read(where, page, device_id)
+        try:
+            bench = cls(page, device_id, array=files.array, counts=files.counts, flags=files.flags, strict=strict, library=library)
+        except BaseException:
+            os.close(files.base)
+            raise
+        bench.folder, bench._map, bench._base = where, files.array, files.base
+        return bench
+
+    @classmethod
+    def new(cls, path: Union[str, "os.PathLike[str]"], page: Union[str, bytes] = "T1", device_id: Optional[int] = None, *,
+            flags: Optional[bytes] = None, strict: bool = True, library: Optional[Library] = None) -> "Bench":
+        """A new part folder, opened: `page` is the name of a part (`nibtoggle.PARTS`), 256 parameter bytes, or an answer to ECh of 768.
+
+        A page does not say its part's device ID: it is 00h unless it is given, or the part has a name. No file is written over.
+        """
+        where = Path(path)
+        make_folder(where, page, device_id, flags, library)
+        return cls.open(where, strict=strict, library=library)
+
     def _store(self, array: Store, length: int) -> Buffer:
         if array is None and length <= LARGE:
             return bytearray(b"\xFF") * length
         if array is not None and not isinstance(array, (str, os.PathLike)):
             return array
-        if array is None:
-            file = tempfile.TemporaryFile()
-        else:
-            file = open(os.open(array, os.O_RDWR | os.O_CREAT, 0o666), "r+b")
-        with file:
+        name = "the array's temporary file" if array is None else os.fspath(array)
+        with tempfile.TemporaryFile() if array is None else open(os.open(name, os.O_RDWR | os.O_CREAT, 0o666), "r+b") as file:
             there = os.fstat(file.fileno()).st_size
-            if there == 0:
-                file.truncate(length)
-            elif there != length:
-                raise ValueError("the array's file has %d bytes, and the part asks for %d" % (there, length))
+            if there not in (0, length):
+                raise ValueError("%s has %d bytes, and the part asks for %d" % (name, there, length))
+            file.truncate(length)
             if length == 0:
                 return bytearray()
             self._map = mmap.mmap(file.fileno(), length)
+        if there == 0 and length <= LARGE:
+            self._map[:] = b"\xFF" * length
+        elif there == 0:
+            _warn_of_zeros(name, length, 4)
         return self._map
 
     # ---- what is lent
@@ -134,12 +171,13 @@ class Bench:
         return self._flags.view
 
     def page_of(self, lun: int, block: int, page: int) -> memoryview:
-        """One page of the array."""
+        """One page of the array. ValueError where there is none."""
         start = self.part.page_start(lun, block, page)
         return self.array[start:start + self.part.page_size]
 
     def register(self, lun: int) -> memoryview:
         """One LUN's page register."""
+        checks.lun(self.part, lun)
         return self.registers[lun * self.part.page_size:(lun + 1) * self.part.page_size]
 
     @property
@@ -149,11 +187,11 @@ class Bench:
 
     @property
     def powered(self) -> bool:
-        return self._target.powered == 1
+        return bool(self._target.powered == 1)
 
     def working(self, lun: int) -> bool:
         """The LUN works: it waits for `finish`."""
-        return self._target.working[lun] == 1
+        return bool(self._target.working[checks.lun(self.part, lun)] == 1)
 
     # ---- calls of the library
 
@@ -161,11 +199,29 @@ class Bench:
         """Power-on over the buffers as they are. 0, or the refusal, 20 to 25, which raises Refused if strict."""
         buffers = [self._array, self._registers, self._counts, self._flags]
         answer: int = self._library.power_on(
-            self._target, self._page.place, self._page.length, self.device_id & 0xFF,
+            self._target, self._page.place, self._page.length, self.device_id,
             *(word for b in buffers for word in (b.place, b.length)))
         if answer and self.strict:
-            raise Refused(answer)
+            raise Refused(answer, detail=self._power_detail(answer))
         return answer
+
+    def _page_refused(self) -> bool:
+        """Power-on refuses the parameter bytes (20 to 23), whatever the buffers are: asked with none, a good page is 24."""
+        answer: int = self._library.power_on(self._target, self._page.place, self._page.length, self.device_id, *(4 * (None, 0)))
+        return answer < 24
+
+    def _power_detail(self, answer: int) -> str:
+        """Which field or buffer a refused power-on is about."""
+        if answer == 20:
+            return "there are %d" % self._page.length
+        if answer == 23:
+            return "; ".join(fields_outside(bytes(self.page)))
+        if answer == 24:
+            due = self.part
+            lengths = (("array", self._array, due.array_length), ("registers", self._registers, due.registers_length),
+                       ("counts", self._counts, due.counts_length), ("flags", self._flags, due.flags_length))
+            return "; ".join("%s: %d bytes, and %d are due" % (name, lent.length, n) for name, lent, n in lengths if lent.length != n)
+        return ""
 
     def trace(self, records: bytes) -> Replies:
         """Two-byte records, kind and value, in one call. Never raises Refused: refusals are in the replies, and stop nothing."""
@@ -175,20 +231,21 @@ class Bench:
         self._library.trace(
             self._target, bytes(records), len(records), room, need,
             *(word for b in buffers for word in (b.place, b.length)))
-        self.replies = Replies(room.raw if room is not None else b"")
+        self.replies = Replies(room.raw if room is not None else b"", bytes(records))
         return self.replies
 
     def event(self, kind: int, value: int) -> Reply:
         """One event; never raises Refused."""
+        record = bytes((checks.byte("kind", kind), checks.byte("value", value)))
         buffers = [self._page, self._array, self._registers, self._counts, self._flags]
         number: int = self._library.event(
-            self._target, kind & 0xFF, value & 0xFF, *(word for b in buffers for word in (b.place, b.length)))
-        self.replies = Replies(number.to_bytes(2, "big"))
+            self._target, *record, *(word for b in buffers for word in (b.place, b.length)))
+        self.replies = Replies(number.to_bytes(2, "big"), record)
         return self.replies[0]
 
     def events(self, events: Iterable[Tuple[int, int]]) -> Replies:
         """Events as (kind, value), run as one trace."""
-        return self.trace(bytes(byte for pair in events for byte in pair))
+        return self.trace(b"".join(bytes((checks.byte("kind", kind), checks.byte("value", value))) for kind, value in events))
 
     def rest(self) -> Rest:
         """The unread rest of the output as a part of the registers or of the parameter bytes, in place; empty where there is none."""
@@ -210,11 +267,11 @@ class Bench:
 
     def command(self, value: int) -> Reply:
         """A command cycle."""
-        return self._run(bytes((COMMAND, value)))[0]
+        return self._run(bytes((COMMAND, checks.byte("command", value))))[0]
 
     def address(self, *values: int) -> Replies:
         """Address cycles, one for each value."""
-        return self._run(_records(ADDRESS, values))
+        return self._run(_records(ADDRESS, (checks.byte("address", value) for value in values)))
 
     def write(self, data: bytes) -> Replies:
         """Data-in cycles, one for each byte."""
@@ -222,92 +279,122 @@ class Bench:
 
     def read(self, count: int) -> bytes:
         """Data-out cycles: what they gave. Not strict, it ends before the first that is refused."""
-        return self._run(bytes((DATA_OUT, 0)) * count).data
+        return self._run(_outs(count)).data
 
     def finish(self, lun: int) -> Reply:
         """The bench lets the LUN finish its work."""
-        return self._run(bytes((FINISH, lun)))[0]
+        return self._run(bytes((FINISH, checks.lun(self.part, lun))))[0]
 
     def protect(self, low: bool = True) -> Reply:
         """The bench pulls the protect line low, or lets it go high."""
         return self._run(bytes((PROTECT, 0 if low else 1)))[0]
 
     # ---- jobs: whole sequences in one call
+    #
+    # Numbers of a place that does not exist raise ValueError, and nothing is sent. Whoever wants such a row, to see it refused, gives it
+    # as `row=` in place of LUN, block and page.
 
     def reset(self) -> Reply:
         """FFh."""
         return self.command(0xFF)
 
-    def program(self, lun: int, block: int, page: int, data: bytes, column: int = 0, *, finish: bool = True) -> Replies:
+    def program(self, lun: Optional[int] = None, block: Optional[int] = None, page: Optional[int] = None, data: bytes = b"", column: int = 0,
+                *, row: Optional[int] = None, finish: bool = True) -> Replies:
         """80h, five addresses, data in, 10h; then the LUN's finish, unless it is left working. A failed program is accepted: ask `status`."""
-        return self._job(self._records_of("program", lun, block, page, column, data=bytes(data)), lun, finish)
+        row = checks.row(self.part, lun, block, page, row)
+        return self._job(self._records_of("program", row, column, data=bytes(data)), row, finish)
 
-    def load(self, lun: int, block: int, page: int, column: int = 0, *, finish: bool = False) -> Replies:
+    def load(self, lun: Optional[int] = None, block: Optional[int] = None, page: Optional[int] = None, column: int = 0, *,
+             row: Optional[int] = None, finish: bool = False) -> Replies:
         """00h, five addresses, 30h: the page goes into the LUN's register, and output will begin at the column once it has finished."""
-        return self._job(self._records_of("read", lun, block, page, column), lun, finish)
+        row = checks.row(self.part, lun, block, page, row)
+        return self._job(self._records_of("read", row, column), row, finish)
 
-    def read_page(self, lun: int, block: int, page: int, column: int = 0, count: Optional[int] = None) -> bytes:
+    def read_page(self, lun: Optional[int] = None, block: Optional[int] = None, page: Optional[int] = None, column: int = 0,
+                  count: Optional[int] = None, *, row: Optional[int] = None) -> bytes:
         """`load`, finish and data out: `count` bytes, or all from the column to the page's end."""
-        replies = self.load(lun, block, page, column, finish=True)
-        if not replies.ok:
-            return b""
-        return self.read(self.part.page_size - column if count is None else count)
+        outs = _outs(self.part.page_size - checks.column(self.part, column) if count is None else count)
+        replies = self.load(lun, block, page, column, row=row, finish=True)
+        return self._run(outs).data if replies.ok else b""
 
-    def read_out(self, lun: int, column: int = 0, count: Optional[int] = None) -> bytes:
+    def read_out(self, lun: Optional[int] = None, column: int = 0, count: Optional[int] = None, *, row: Optional[int] = None) -> bytes:
         """06h, five addresses, E0h and data out: the LUN's register as it is."""
-        n = max(self.part.page_size - column, 0) if count is None else count
-        return self._run(self._records_of("read-out", lun, 0, 0, column, n)).data
+        n = self.part.page_size - checks.column(self.part, column) if count is None else count
+        return self._run(self._records_of("read-out", self._lun_row(lun, row), column, n)).data
 
-    def erase(self, lun: int, block: int, *, finish: bool = True) -> Replies:
+    def erase(self, lun: Optional[int] = None, block: Optional[int] = None, *, row: Optional[int] = None, finish: bool = True) -> Replies:
         """60h, three addresses, D0h; then the LUN's finish, unless it is left working. A failed erase is accepted: ask `status`."""
-        return self._job(self._records_of("erase", lun, block), lun, finish)
+        row = checks.row(self.part, lun, block, 0 if row is None else None, row)
+        return self._job(self._records_of("erase", row), row, finish)
 
-    def status(self, lun: Optional[int] = None) -> Optional[Status]:
+    def status(self, lun: Optional[int] = None, *, row: Optional[int] = None) -> Optional[Status]:
         """The status byte: of the selected LUN by 70h, or of the LUN given by 78h. None where refused and not strict."""
-        ask = _command(0x70) + bytes((DATA_OUT, 0)) if lun is None else self._records_of("status", lun, count=1)
+        if lun is None and row is None:
+            ask = _command(0x70) + _outs(1)
+        else:
+            ask = self._records_of("status", self._lun_row(lun, row), count=1)
         data = self._run(ask).data
         return Status(data[0]) if data else None
 
     def read_id(self) -> bytes:
         """90h with 00h: maker ID and device ID."""
-        return self._run(_command(0x90) + bytes((ADDRESS, 0x00)) + bytes((DATA_OUT, 0)) * 2).data
+        return self._run(_command(0x90) + bytes((ADDRESS, 0x00)) + _outs(2)).data
 
     def signature(self) -> bytes:
         """90h with 20h: b'ONFI'."""
-        return self._run(_command(0x90) + bytes((ADDRESS, 0x20)) + bytes((DATA_OUT, 0)) * 4).data
+        return self._run(_command(0x90) + bytes((ADDRESS, 0x20)) + _outs(4)).data
 
     def parameters(self, copies: int = 1) -> bytes:
         """ECh: the parameter page, up to three times."""
-        return self._run(_command(0xEC) + bytes((ADDRESS, 0x00)) + bytes((DATA_OUT, 0)) * (256 * copies)).data
+        outs = _outs(PAGE_LENGTH * checks.number("number of copies", copies, 0, 3))
+        return self._run(_command(0xEC) + bytes((ADDRESS, 0x00)) + outs).data
 
     def get_feature(self, address: int = 0x01) -> bytes:
         """EEh: the feature's four bytes."""
-        return self._run(_command(0xEE) + bytes((ADDRESS, address)) + bytes((DATA_OUT, 0)) * 4).data
+        return self._run(_command(0xEE) + bytes((ADDRESS, checks.byte("feature address", address))) + _outs(4)).data
 
     def set_feature(self, values: bytes, address: int = 0x01) -> Replies:
         """EFh: the feature's four bytes."""
-        return self._run(_command(0xEF) + bytes((ADDRESS, address)) + _records(DATA_IN, values))
+        checks.number("number of feature bytes", len(values), 4, 4)
+        return self._run(_command(0xEF) + bytes((ADDRESS, checks.byte("feature address", address))) + _records(DATA_IN, values))
 
     def program_clear(self, on: bool) -> Replies:
         """Feature 01h: with program-clear on, 80h clears the addressed LUN's register alone."""
         return self.set_feature(b"\x40\0\0\0" if on else b"\0\0\0\0")
 
-    def _records_of(self, kind: str, lun: int, block: int = 0, page: int = 0, column: int = 0, count: int = 0, data: bytes = b"") -> bytes:
-        # the cycles of a whole job are the proved writer's
-        return jobs.records(jobs.Job(kind, self.part.row(lun, block, page), column, count, data), self._library)
+    def _records_of(self, kind: str, row: int, column: int = 0, count: int = 0, data: bytes = b"") -> bytes:
+        """The cycles of a whole job, as the proved writer makes them, once its numbers are looked at."""
+        count = checks.count("number of data outs", count)
+        return jobs.records(jobs.Job(kind, row, checks.column(self.part, column), count, data), self._library)
 
-    def _job(self, records: bytes, lun: int, finish: bool) -> Replies:
+    def _lun_row(self, lun: Optional[int], row: Optional[int]) -> int:
+        """A row of which only the LUN counts."""
+        rest = 0 if row is None else None
+        return checks.row(self.part, lun, rest, rest, row)
+
+    def _job(self, records: bytes, row: int, finish: bool) -> Replies:
         # the finish is an event of its own call: after a refused job it would end work that an earlier job began
         replies = self._run(records)
         if finish and replies.ok:
-            replies = Replies(replies.raw + self._run(bytes((FINISH, lun))).raw)
+            last = self._run(bytes((FINISH, self.part.lun_of(row))))
+            replies = Replies(replies.raw + last.raw, replies.records + last.records)
             self.replies = replies
         return replies
 
     # ---- the end
 
+    def save(self) -> None:
+        """Array, counts and registers to the part folder, and the flags where they changed: all of them, or none."""
+        if self.folder is None:
+            raise ValueError("this bench has no part folder: Bench.open and Bench.new give it one")
+        files: List[Tuple[str, Buffer]] = [("array", self.array), ("counts", self.counts), ("registers", self.registers)]
+        if (self.folder / "flags").read_bytes() != bytes(self.flags):
+            files.append(("flags", self.flags))
+        folder.save(self.folder, files, self._base)
+
     def close(self) -> None:
-        """Lets go of the buffers. A file's array is written back; views of it that are still held keep it open."""
+        """Lets go of the buffers; a part folder is not saved here. A file's array is written back; views of it that are still held keep it
+        open."""
         for lent in (self._page, self._array, self._registers, self._counts, self._flags):
             try:
                 lent.release()
@@ -320,13 +407,65 @@ class Bench:
             except (BufferError, ValueError):
                 pass
             self._map = None
+        if self._base is not None:
+            os.close(self._base)
+            self._base = None
         self._target = Target()
+
+    def __repr__(self) -> str:
+        p = self.part
+        if not self.powered:
+            return "<Bench not powered>"
+        busy = [str(lun) for lun in range(p.luns) if self.working(lun)]
+        return "<Bench of %s%d LUNs, %d blocks, %d pages of %d bytes; %s%s>" % (
+            "%s, " % self.folder if self.folder is not None else "", p.luns, p.blocks, p.pages, p.page_size, "LUN %s working" % " and ".join(busy) if busy else "ready",
+            "" if self._target.high else ", protect line low")
 
     def __enter__(self) -> "Bench":
         return self
 
-    def __exit__(self, *_: object) -> None:
-        self.close()
+    def __exit__(self, kind: Optional[Type[BaseException]], error: Optional[BaseException], trace: Optional[TracebackType]) -> None:
+        try:
+            if self.folder is not None and kind is None:
+                self.save()
+        finally:
+            self.close()
+
+
+def page_refusal(page: bytes, library: Optional[Library] = None) -> Optional[Refused]:
+    """What power-on says of a page whatever its buffers are, 20 to 23, as the exception to raise; None where it takes it."""
+    bench = Bench(page, 0, array=b"", counts=b"", flags=b"", strict=False, library=library)
+    answer = bench.power_on()
+    return Refused(answer, detail=bench._power_detail(answer)) if answer < 24 else None
+
+
+def page_named(page: Union[str, bytes], device_id: Optional[int] = None) -> Tuple[bytes, int]:
+    """Parameter bytes and device ID: of a part by its name, of 256 bytes, or of an ECh answer of 768."""
+    if isinstance(page, str):
+        known = parts.PARTS.get(page)
+        if known is None:
+            raise ValueError("no part has the name %r; these are known: %s" % (page, ", ".join(parts.PARTS)))
+        return known.page, known.device_id if device_id is None else checks.byte("device ID", device_id)
+    return parts.page_of(bytes(page)), 0 if device_id is None else checks.byte("device ID", device_id)
+
+
+def make_folder(path: Path, page: Union[str, bytes], device_id: Optional[int] = None, flags: Optional[bytes] = None,
+                library: Optional[Library] = None) -> None:
+    """A new part folder (`Bench.new` opens it too). Nothing is made where power-on would refuse the page or the flags."""
+    bytes_, number = page_named(page, device_id)
+    refusal = page_refusal(bytes_, library)
+    if refusal is not None:
+        raise refusal
+    due = Part.of(bytes_).flags_length
+    if flags is not None and (len(flags) != due or max(flags) > 1):
+        raise ValueError("flags are %d bytes, 0 or 1 each" % due)
+    if folder.make(path, bytes_, number, flags or b""):
+        _warn_of_zeros(str(path / "array"), Part.of(bytes_).array_length, 4)
+
+
+def _warn_of_zeros(name: str, length: int, level: int) -> None:
+    warnings.warn("%s is new and has %d bytes: unwritten ones are 00h, for only arrays of up to %d bytes start as FFh; erase a block before "
+                  "it is programmed" % (name, length, LARGE), UnwrittenZeros, stacklevel=level)
 
 
 def _records(kind: int, values: Iterable[int]) -> bytes:
@@ -339,3 +478,7 @@ def _records(kind: int, values: Iterable[int]) -> bytes:
 
 def _command(value: int) -> bytes:
     return bytes((COMMAND, value))
+
+
+def _outs(count: int) -> bytes:
+    return bytes((DATA_OUT, 0)) * checks.count("number of data outs", count)

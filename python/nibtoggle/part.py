@@ -2,15 +2,48 @@
 from __future__ import annotations
 
 from dataclasses import dataclass
+from typing import List, Tuple
 
+from . import checks
+
+#: A parameter page's length.
+PAGE_LENGTH = 256
 #: Bits of the feature word (bytes 6 and 7) that the model knows.
 FEATURE_MORE_LUNS, FEATURE_PROGRAM_CLEAR = 1 << 1, 1 << 8
 #: Bits of the optional-command word (bytes 8 and 9).
 OPTIONAL_FEATURES, OPTIONAL_STATUS_78H, OPTIONAL_COLUMN_06H = 1 << 2, 1 << 3, 1 << 6
 
 
+#: Numbers of a parameter page: name, first byte, how many bytes, and the model's limits (house limits of the requirements).
+FIELDS: Tuple[Tuple[str, int, int, int, int], ...] = (
+    ("data bytes", 80, 4, 16, 16384),
+    ("spare bytes", 84, 2, 0, 2048),
+    ("pages a block", 92, 4, 1, 256),
+    ("blocks a LUN", 96, 4, 1, 4096),
+    ("LUNs", 100, 1, 1, 4),
+    ("programs a page", 110, 1, 1, 8),
+)
+
+
 def _bits(n: int) -> int:
     return (n - 1).bit_length()
+
+
+def fields_outside(page: bytes) -> List[str]:
+    """The fields of 256 parameter bytes that make power-on answer 23, each in words."""
+
+    def number(at: int, size: int) -> int:
+        return int.from_bytes(page[at:at + size], "little")
+
+    said = ["%s: %d, and %d to %d are taken" % (name, number(at, size), least, most)
+            for name, at, size, least, most in FIELDS if not least <= number(at, size) <= most]
+    if number(6, 2) & 1:
+        said.append("features: bit 0, a 16-bit bus, is set, and 8 bits are taken")
+    if number(100, 1) > 1 and not number(6, 2) & FEATURE_MORE_LUNS:
+        said.append("LUNs: %d, and feature bit 1, more than one LUN, is clear" % number(100, 1))
+    if number(101, 1) != 0x23:
+        said.append("address cycles: %02Xh, and 23h, two of the column and three of the row, is taken" % number(101, 1))
+    return said
 
 
 @dataclass(frozen=True)
@@ -49,16 +82,27 @@ class Part:
         return self.luns * self.blocks
 
     def row(self, lun: int, block: int = 0, page: int = 0) -> int:
-        """The row address: page bits, block bits, the rest LUN. Numbers that don't exist are not refused here."""
+        """The row address: page bits, block bits, the rest LUN. ValueError where one of the three does not exist."""
+        self._look(lun, block, page)
         return (lun << _bits(self.blocks) | block) << _bits(self.pages) | page
 
+    def lun_of(self, row: int) -> int:
+        """The LUN field of a row, whether that LUN exists or not."""
+        return row >> (_bits(self.blocks) + _bits(self.pages))
+
     def page_number(self, lun: int, block: int, page: int) -> int:
-        """Which page it is in the order of the array: LUN, block, page."""
+        """Which page it is in the order of the array: LUN, block, page. ValueError where there is none."""
+        self._look(lun, block, page)
         return (lun * self.blocks + block) * self.pages + page
 
     def page_start(self, lun: int, block: int, page: int) -> int:
-        """Where the page starts in the array."""
+        """Where the page starts in the array. ValueError where there is none."""
         return self.page_number(lun, block, page) * self.page_size
+
+    def _look(self, lun: int, block: int, page: int) -> None:
+        checks.lun(self, lun)
+        checks.number("block", block, 0, self.blocks - 1)
+        checks.number("page", page, 0, self.pages - 1)
 
 
 def crc(message: bytes) -> int:
@@ -74,8 +118,14 @@ def crc(message: bytes) -> int:
 def parameter_page(data: int = 512, spare: int = 16, pages: int = 4, blocks: int = 8, luns: int = 2, programs: int = 4, *,
                    maker: int = 0x2C, program_clear: bool = True, features: bool = True, status_78h: bool = True,
                    column_06h: bool = True) -> bytes:
-    """256 parameter bytes of a part, with their CRC. What is not given is as in the worked part T1, with every option."""
-    page = bytearray(256)
+    """256 parameter bytes of a part, with their CRC. What is not given is as in the worked part T1, with every option.
+
+    Numbers outside the model's limits are written as they are, for power-on to refuse; those that their field can't hold raise ValueError.
+    """
+    for (name, _, size, _, _), value in zip(FIELDS, (data, spare, pages, blocks, luns, programs)):
+        checks.number(name, value, 0, (1 << 8 * size) - 1)
+    checks.byte("maker ID", maker)
+    page = bytearray(PAGE_LENGTH)
     page[0:4] = b"ONFI"
     page[6:8] = (FEATURE_MORE_LUNS * (luns > 1) | FEATURE_PROGRAM_CLEAR * program_clear).to_bytes(2, "little")
     page[8:10] = (OPTIONAL_FEATURES * features | OPTIONAL_STATUS_78H * status_78h

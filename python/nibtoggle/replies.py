@@ -1,47 +1,47 @@
 """Replies as values, refusals by number with their rule's words, and the status byte."""
 from __future__ import annotations
 
-from collections.abc import Sequence
-from typing import Dict, List, NamedTuple, Optional, Tuple, Union, overload
+from typing import Dict, Iterator, List, Mapping, NamedTuple, Optional, Sequence, Tuple, Type, Union, overload
 
-#: What each refusal number means.
-RULES: Dict[int, str] = {
-    1: "command byte not known, or one whose option the part does not offer",
-    2: "bus cycle other than FFh before the first FFh",
-    3: "known cycle that doesn't fit the place reached",
-    4: "row, column, feature or identification address not in range",
-    5: "the LUN that is named, or whose register is read, is working",
-    6: "90h, ECh, EEh, EFh while any LUN works, or 70h while a LUN other than the selected one works",
-    7: "10h or D0h with the protect line low",
-    8: "data in or out past the end",
-    9: "feature byte not offered",
-    10: "finish of a LUN that is not working or doesn't exist",
-    11: "protect event while a LUN works or a sequence is open",
-    12: "bad record: unknown kind, kind 3 with value not 0, kind 5 above 1, odd byte",
-    13: "target not powered, or a buffer's length or a number in the record that can't be",
-    16: "reply room too short",
-    20: "power-on: the parameter bytes are not 256",
-    21: "power-on: the parameter bytes don't start with ONFI",
-    22: "power-on: CRC of the parameter bytes",
-    23: "power-on: a field outside its limits",
-    24: "power-on: a buffer's length",
-    25: "power-on: a count above programs a page, or a flag above 1",
-}
+from ._library import Library
+
+NO_RULE = "no rule has this number"
+
+
+class _Rules(Mapping[int, str]):
+    """What each refusal number means, in the library's words; asked for once, when the first is wanted."""
+
+    def __init__(self) -> None:
+        self._words: Dict[int, str] = {}
+
+    def _all(self) -> Dict[int, str]:
+        if not self._words:
+            library = Library.any()
+            said = {number: library.words(library.say_rule, number) for number in range(256)}
+            self._words = {number: words for number, words in said.items() if words}
+        return self._words
+
+    def __getitem__(self, number: int) -> str:
+        return self._all()[number]
+
+    def __iter__(self) -> Iterator[int]:
+        return iter(self._all())
+
+    def __len__(self) -> int:
+        return len(self._all())
+
+
+#: What each refusal number means: the words that nib and the C header have.
+RULES: Mapping[int, str] = _Rules()
 
 #: Kinds of events, as a record's first byte has them.
 COMMAND, ADDRESS, DATA_IN, DATA_OUT, FINISH, PROTECT = range(6)
-_KINDS = ("command", "address", "data in", "data out", "finish of LUN", "protect line")
 
 
 def event_words(kind: int, value: int) -> str:
-    """An event for a message: 'command 80h', 'finish of LUN 1'."""
-    if kind >= len(_KINDS):
-        return "record %02X %02X" % (kind, value)
-    if kind == DATA_OUT:
-        return "data out" if value == 0 else "data out with value %d" % value
-    if kind in (FINISH, PROTECT):
-        return "%s %d" % (_KINDS[kind], value)
-    return "%s %02Xh" % (_KINDS[kind], value)
+    """An event for a message, in the library's words, without a command's name: 'command 80h', 'finish LUN 1'."""
+    library = Library.any()
+    return library.words(library.say_event, 0, kind, value).split("  ")[0]
 
 
 class Reply(NamedTuple):
@@ -77,12 +77,16 @@ class Reply(NamedTuple):
 
 
 class Replies(Sequence[Reply]):
-    """The replies of some records, in order; `raw` is their bytes as the library wrote them."""
+    """The replies of some records, in order; `raw` is their bytes as the library wrote them, `records` what they answer.
 
-    __slots__ = ("raw",)
+    The repr tells the first refusal with its event, so that a failed `assert replies.ok` says what was wrong.
+    """
 
-    def __init__(self, raw: bytes) -> None:
+    __slots__ = ("raw", "records")
+
+    def __init__(self, raw: bytes, records: bytes = b"") -> None:
         self.raw = raw
+        self.records = records
 
     def __len__(self) -> int:
         return len(self.raw) // 2
@@ -96,18 +100,37 @@ class Replies(Sequence[Reply]):
     def __getitem__(self, at: Union[int, slice]) -> Union[Reply, "Replies"]:
         if isinstance(at, slice):
             chosen = range(len(self))[at]
-            return Replies(b"".join(self.raw[2 * i:2 * i + 2] for i in chosen))
+            return Replies(*(b"".join(of[2 * i:2 * i + 2] for i in chosen) for of in (self.raw, self.records)))
         i = range(len(self))[at]
         return Reply(self.raw[2 * i], self.raw[2 * i + 1])
 
     def __eq__(self, other: object) -> bool:
-        return self.raw == other.raw if isinstance(other, Replies) else NotImplemented
+        if not isinstance(other, Replies):
+            return NotImplemented
+        return self.raw == other.raw
 
     def __hash__(self) -> int:
         return hash(self.raw)
 
     def __repr__(self) -> str:
-        return "Replies(%s)" % ", ".join(str(reply) for reply in self)
+        at = self.first_refused
+        if at is None:
+            return "Replies(%d accepted%s)" % (len(self), ", %d with a byte" % len(self.data) if self.data else "")
+        refused = self.raw[::2].count(2)
+        return "Replies(%s%s; event %d of %d)" % (
+            self.told(at), ", and %d more refused" % (refused - 1) if refused > 1 else "", at + 1, len(self))
+
+    def event(self, at: int) -> Optional[Tuple[int, int]]:
+        """The record that a reply answers, as (kind, value); None where it is not known, or is an odd byte."""
+        pair = self.records[2 * at:2 * at + 2]
+        return (pair[0], pair[1]) if len(pair) == 2 else None
+
+    def told(self, at: int) -> str:
+        """A refusal in words: 'command 10h refused with 3: ...'."""
+        event = self.event(at)
+        number = self.raw[2 * at + 1]
+        what = event_words(*event) if event is not None else "event"
+        return "%s refused with %d: %s" % (what, number, RULES.get(number, NO_RULE))
 
     @property
     def first_refused(self) -> Optional[int]:
@@ -137,20 +160,27 @@ class Replies(Sequence[Reply]):
 class Refused(Exception):
     """An event, or a power-on, was refused.
 
-    `number` and `words` say why. `event` is the (kind, value) that was refused, and `index` which of a call's events it was; both
-    are None for a power-on. `replies` has the replies of the whole call.
+    `number` and `words` say why, and `detail` which field or buffer it was, where power-on says 23 or 24. `event` is the (kind, value)
+    that was refused, and `index` which of a call's events it was; both are None for a power-on. `replies` has the replies of the whole
+    call.
     """
 
     def __init__(self, number: int, event: Optional[Tuple[int, int]] = None, index: Optional[int] = None,
-                 replies: Optional[Replies] = None) -> None:
+                 replies: Optional[Replies] = None, detail: str = "") -> None:
         self.number = number
-        self.words = RULES.get(number, "no rule has this number")
+        self.words = RULES.get(number, NO_RULE)
+        self.detail = detail
         self.event = event
         self.index = index
         self.replies = replies if replies is not None else Replies(b"")
         what = "power-on" if event is None else event_words(*event)
+        which = "; " + detail if detail else ""
         where = "" if not index else " (event %d of the call)" % (index + 1)
-        super().__init__("%s refused with %d: %s%s" % (what, number, self.words, where))
+        super().__init__("%s refused with %d: %s%s%s" % (what, number, self.words, which, where))
+
+    def __reduce__(self) -> Tuple[Type["Refused"], Tuple[object, ...]]:
+        # an exception is made anew from its message unless it says how: this one must pass process pools
+        return type(self), (self.number, self.event, self.index, self.replies, self.detail)
 
 
 class Status(int):

@@ -12,7 +12,7 @@ from pathlib import Path
 ROOT = Path(__file__).resolve().parent.parent.parent
 sys.path.insert(0, str(ROOT / "python"))
 
-from nibtoggle import RULES, Bench, Part, Refused, Replies, Reply, Status, crc, parameter_page  # noqa: E402
+from nibtoggle import RULES, Bench, Part, Refused, Replies, Reply, Status, UnwrittenZeros, crc, parameter_page  # noqa: E402
 from nibtoggle._library import Target  # noqa: E402
 
 HEADER = (ROOT / "include" / "nibtoggle.h").read_text(encoding="utf-8")
@@ -283,8 +283,7 @@ class Files(unittest.TestCase):
             path = Path(folder) / "array"
             with Bench.t1(array=path) as bench:
                 bench.reset()
-                self.assertEqual(bench.read_page(0, 0, 0, count=2), b"\0\0")
-                bench.erase(0, 0)
+                self.assertEqual(bench.read_page(0, 0, 0, count=2), b"\xFF\xFF")
                 bench.program(0, 0, 0, b"kept")
             self.assertEqual(path.stat().st_size, 33792)
             with Bench.t1(array=path) as bench:
@@ -298,7 +297,9 @@ class Files(unittest.TestCase):
         page = parameter_page(data=8192, spare=448, pages=64, blocks=4096, luns=4)
         with tempfile.TemporaryDirectory() as folder:
             path = Path(folder) / "array"
-            with Bench(page, 0x68, array=path) as bench:
+            with self.assertWarns(UnwrittenZeros):
+                bench = Bench(page, 0x68, array=path)
+            with bench:
                 self.assertEqual(len(bench.array), 9_059_696_640)
                 bench.reset()
                 bench.erase(3, 4095)
@@ -311,7 +312,9 @@ class Files(unittest.TestCase):
             self.assertLess(used, 4 << 20)
 
     def test_large_without_a_path(self) -> None:
-        with Bench(parameter_page(data=16384, spare=0, pages=256, blocks=32, luns=1), 0x68) as bench:
+        with self.assertWarns(UnwrittenZeros):
+            bench = Bench(parameter_page(data=16384, spare=0, pages=256, blocks=32, luns=1), 0x68)
+        with bench:
             bench.reset()
             bench.erase(0, 31)
             bench.program(0, 31, 255, b"end")

@@ -411,6 +411,55 @@ static void checked_pages(void)
     same("nine numbers", report[1] == 5 && report[6] == 110 && report[8] == 0 && report[9] == 0xEEEEEEEEEEEEEEEEu, 1);
 }
 
+/* Rows that are looked at, the version, and a text to a trace and back, with the words of its events. */
+static void text_and_words(void)
+{
+    nib_part t2 = {528, 3, 5, 2};
+    uint32_t row = 77;
+    same("nib_row_of, a page", (unsigned)nib_row_of(t2, 1, 4, 2, &row), 1);
+    same("nib_row_of, its row", row, nib_row(t2, 1, 4, 2));
+    for (unsigned i = 0; i < 3; i++) {
+        row = 77;
+        same("nib_row_of, no page", (unsigned)nib_row_of(t2, i == 0 ? 2 : 0, i == 1 ? 5 : 0, i == 2 ? 3 : 0, &row), 0);
+        same("nib_row_of, row stays", row, 77);
+    }
+    same("nib_version", nib_version(), NIB_VERSION_NUMBER);
+
+    static const char text[] = "c 80  a 00 37 # save\no 3\nf 1 p 0\nx 07\n", back[] = "c 80\na 00 37\no 3\nf 1\np 0\nx 07\n";
+    static const uint8_t due[] = {0, 0x80, 1, 0, 1, 0x37, 3, 0, 3, 0, 3, 0, 4, 1, 5, 0, 7};
+    uint8_t trace[32], out[256];
+    size_t n = 0, written = 0;
+    uint64_t state = 0;
+    for (size_t i = 0; i < sizeof text - 1; i++) {
+        uint64_t said = nib_text_said(state, (uint8_t)text[i]);
+        unsigned value = (unsigned)(said & 0xFFFF);
+        same("no word is bad", said >> 16 == NIB_SAID_WRONG, 0);
+        for (unsigned k = 0; said >> 16 == NIB_SAID_OUTS && k < value; k++) {
+            trace[n++] = NIB_DATA_OUT;
+            trace[n++] = 0;
+        }
+        if (said >> 16 == NIB_SAID_RECORD)
+            trace[n++] = (uint8_t)(value >> 8);
+        if (said >> 16 == NIB_SAID_RECORD || said >> 16 == NIB_SAID_BYTE)
+            trace[n++] = (uint8_t)value;
+        state = nib_text_next(state, (uint8_t)text[i]);
+    }
+    same("a text's trace", n == sizeof due && memcmp(trace, due, n) == 0, 1);
+    state = 0;
+    for (size_t i = 0; i < n; i++) {
+        written += nib_back_text(state, trace[i], out + written, sizeof out - written);
+        state = nib_back_next(state, trace[i]);
+    }
+    written += nib_back_end(state, out + written, sizeof out - written);
+    same("a trace's text", written == sizeof back - 1 && memcmp(out, back, written) == 0, 1);
+    same("words that have no room", nib_say_event(0, NIB_COMMAND, 0x80, out, 7), 7);
+    same("words to nowhere", nib_say_event(0, NIB_COMMAND, 0x80, NULL, 0), 0);
+    for (unsigned number = 0; number < 256; number++) {
+        size_t said = nib_say_rule((uint8_t)number, out, sizeof out);
+        same("one table of words", said == strlen(nib_words(number)) && memcmp(out, nib_words(number), said) == 0, 1);
+    }
+}
+
 int main(void)
 {
     whole_case();
@@ -420,6 +469,7 @@ int main(void)
     rest();
     refused_calls();
     checked_pages();
+    text_and_words();
     printf("whole: %u checks, %u failed\n", checks, failures);
     return failures != 0;
 }

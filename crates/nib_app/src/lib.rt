@@ -1,7 +1,16 @@
 // nib, the bench at the command line: all of the program, so that it and the programs that try its commands are one call each. Each
 // command's own work stands in a crate of its own: nib_run, nib_demo, nib_page, nib_translate.
+pub mod known;
+
+use known::is_maker_s;
+use known::show_parts;
+use known::show_version;
+use known::too_large;
 use nib_args::Asked;
+use nib_args::May;
+use nib_args::allowed;
 use nib_args::asked_of;
+use nib_args::is_word;
 use nib_demo::demo::tell;
 use nib_files::part::Array;
 use nib_files::part::Counts;
@@ -10,9 +19,11 @@ use nib_files::part::Page;
 use nib_files::part::Part;
 use nib_files::part::T1_ID;
 use nib_files::part::make;
+use nib_files::part::no_part;
 use nib_files::part::planned;
 use nib_files::part::read_page;
 use nib_files::part::t1;
+use nib_files::part::to_t2;
 use nib_page::pages::show_page;
 use nib_print::pen::Paper;
 use nib_print::pen::Pen;
@@ -29,7 +40,12 @@ fn usage_files(out: &mut Paper, p: Pen) -> Pen {
     let p = text(
         out,
         p,
-        b"  nib new DIR [PAGE]         makes a part folder: part T1, or the part of a page\n",
+        b"  nib new DIR [PART]         makes a part folder: part T1, one of `parts`, or the part of a page in a file\n",
+    );
+    let p = text(
+        out,
+        p,
+        b"  nib parts                  the parts that have a name\n",
     );
     let p = text(
         out,
@@ -55,6 +71,7 @@ fn usage_texts(out: &mut Paper, p: Pen) -> Pen {
         b"  nib text < TEXT > TRACE    a trace from text, as: c 80  a 00 00 37 00 00  d 3c  o 16  f 1  p 0\n",
     );
     let p = text(out, p, b"  nib text -d < TRACE        a trace as text\n");
+    let p = text(out, p, b"  nib version                the version\n");
     text(out, p, b"  nib help                   these lines\n")
 }
 
@@ -70,8 +87,25 @@ fn usage(fd: i32, out: &mut Paper) {
     flush(out, p);
 }
 
+// A part by name, or of the page in a file. The page that is lent is T1's.
+fn part_of(name: &[u8], page: &mut Page) -> Part {
+    if is_word(name, b"T1") {
+        return planned(name, page, T1_ID);
+    }
+    if is_word(name, b"T2") {
+        to_t2(page);
+        return planned(name, page, T1_ID);
+    }
+    if is_maker_s(name) {
+        too_large(name);
+        return no_part();
+    }
+    read_page(name, page)
+}
+
 fn make_new(
     dir: &[u8],
+    may: May,
     page: &Page,
     part: Part,
     array: &Array,
@@ -79,7 +113,7 @@ fn make_new(
     flags: &Flags,
     out: &mut Paper,
 ) {
-    if part.good {
+    if part.good & may.make {
         make(dir, page, part, array, counts, flags, out);
     }
 }
@@ -87,6 +121,7 @@ fn make_new(
 // The commands that have a part. Its buffers stand here alone, and this is called in one place, since the stack has no room for
 // two sets.
 fn on_part(asked: Asked, second: &[u8], third: &[u8], input: i32, out: &mut Paper) {
+    let may = allowed(asked);
     let mut page = t1();
     let mut array = [0xffu8; 4194304];
     let mut registers = [0u8; 73728];
@@ -96,15 +131,16 @@ fn on_part(asked: Asked, second: &[u8], third: &[u8], input: i32, out: &mut Pape
         Asked::Demo => tell(out, &page, &mut array, &mut registers, &mut counts, &flags),
         Asked::New => {
             let part = planned(b"T1", &page, T1_ID);
-            make_new(second, &page, part, &array, &counts, &flags, out)
+            make_new(second, may, &page, part, &array, &counts, &flags, out)
         }
         // a page does not say its part's device ID: it is 0 until the folder's owner puts another
         Asked::NewFrom => {
-            let part = read_page(third, &mut page);
-            make_new(second, &page, part, &array, &counts, &flags, out)
+            let part = part_of(third, &mut page);
+            make_new(second, may, &page, part, &array, &counts, &flags, out)
         }
         Asked::Run => on_folder(
             second,
+            may,
             false,
             input,
             out,
@@ -116,6 +152,7 @@ fn on_part(asked: Asked, second: &[u8], third: &[u8], input: i32, out: &mut Pape
         ),
         Asked::Explain => on_folder(
             second,
+            may,
             true,
             input,
             out,
@@ -128,6 +165,8 @@ fn on_part(asked: Asked, second: &[u8], third: &[u8], input: i32, out: &mut Pape
         Asked::Text => {}
         Asked::Back => {}
         Asked::Page => {}
+        Asked::Parts => {}
+        Asked::Version => {}
         Asked::Help => {}
         Asked::Wrong => {}
     }
@@ -148,6 +187,8 @@ fn has_part(asked: Asked) -> bool {
         Asked::Text => false,
         Asked::Back => false,
         Asked::Page => false,
+        Asked::Parts => false,
+        Asked::Version => false,
         Asked::Help => false,
         Asked::Wrong => false,
     }
@@ -163,6 +204,8 @@ fn without_part(asked: Asked, second: &[u8], input: i32, out: &mut Paper) {
         Asked::Text => from_text(input, out),
         Asked::Back => to_text(input, out),
         Asked::Page => show_page(second, out),
+        Asked::Parts => show_parts(out),
+        Asked::Version => show_version(out),
         Asked::Help => usage(libc::STDOUT_FILENO, out),
         Asked::Wrong => wrong(out),
     }

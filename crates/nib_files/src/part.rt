@@ -1,4 +1,5 @@
 // A part: its buffers, and the folder that holds it.
+use crate::fields::outside;
 use crate::files::complain;
 use crate::files::create;
 use crate::files::join;
@@ -10,6 +11,7 @@ use crate::files::write_beside;
 use libc::STDERR_FILENO;
 use libc::STDOUT_FILENO;
 use nib_print::pen::Paper;
+use nib_print::pen::Pen;
 use nib_print::pen::begin;
 use nib_print::pen::count;
 use nib_print::pen::end_line;
@@ -24,6 +26,7 @@ use nib_sizes::plan_of;
 use power::PowerRefusal;
 use power::Powered;
 use power::power_on;
+use slices::copy;
 use target::Target;
 use trace::run;
 
@@ -303,6 +306,14 @@ pub fn t1() -> Page {
     T1
 }
 
+// T1's page becomes T2's: 3 pages, 5 blocks, and their CRC.
+pub fn to_t2(page: &mut Page) {
+    page[92] = 3;
+    page[96] = 5;
+    page[254] = 180;
+    page[255] = 50;
+}
+
 // T1's device ID.
 pub const T1_ID: u8 = 0x68;
 
@@ -327,15 +338,36 @@ pub fn no_part() -> Part {
     }
 }
 
-pub fn refuse(path: &[u8], why: PowerRefusal) {
+fn is_field(why: PowerRefusal) -> bool {
+    match why {
+        PowerRefusal::PageLength => false,
+        PowerRefusal::Signature => false,
+        PowerRefusal::Crc => false,
+        PowerRefusal::Field => true,
+        PowerRefusal::BufferLength => false,
+        PowerRefusal::Content => false,
+    }
+}
+
+fn fields_if(out: &mut Paper, p: Pen, field: bool, page: &[u8]) -> Pen {
+    if field { outside(out, p, page) } else { p }
+}
+
+// The line that tells of a refused power-on; where a field is outside its limits, it names the field.
+fn refuse_page(path: &[u8], why: PowerRefusal, page: &[u8]) {
     let mut out = [0u8; 65536];
     let p = begin(STDERR_FILENO);
     let p = text(&mut out, p, b"nib: ");
     let p = text(&mut out, p, path);
     let p = text(&mut out, p, b": power-on ");
     let p = power_sentence(&mut out, p, why);
+    let p = fields_if(&mut out, p, is_field(why), page);
     let p = end_line(&mut out, p);
     flush(&out, p);
+}
+
+pub fn refuse(path: &[u8], why: PowerRefusal) {
+    refuse_page(path, why, b"");
 }
 
 fn refuse_large(path: &[u8], l: Lengths) {
@@ -343,7 +375,7 @@ fn refuse_large(path: &[u8], l: Lengths) {
         path,
         b": an array of ",
         l.array,
-        b" bytes is more than the 4194304 that nib holds; the library for hosts has no such limit\n",
+        b" bytes is more than the 4194304 that nib holds; python3 -m nibtoggle has no such limit\n",
     );
 }
 
@@ -357,7 +389,7 @@ pub fn planned(path: &[u8], page: &[u8], device: u8) -> Part {
             lengths,
         },
         Plan::Refused(why) => {
-            refuse(path, why);
+            refuse_page(path, why, page);
             no_part()
         }
         Plan::TooLarge(l) => {
@@ -390,30 +422,107 @@ fn read_id(dir: &[u8]) -> Part {
     }
 }
 
+// The bytes are signed, and have the CRC that they say.
+fn is_whole(bytes: &[u8]) -> bool {
+    let plan = plan_of(bytes);
+    match plan {
+        Plan::Sizes(_) => true,
+        Plan::Refused(why) => is_field(why),
+        Plan::TooLarge(_) => true,
+    }
+}
+
+// A part of a slice, and an empty one where it has none.
+fn stretch(s: &[u8], from: usize, to: usize) -> &[u8] {
+    if from <= to {
+        if to <= s.len() {
+            return &s[from..to];
+        }
+    }
+    &s[..0]
+}
+
+fn copy_whole(dst: &mut [u8], src: &[u8]) {
+    if dst.len() == src.len() {
+        copy(dst, src);
+    }
+}
+
+// Bytes of the answer that are a whole page become the page. Whether they are one.
+fn take_whole(bytes: &[u8], from: usize, to: usize, page: &mut [u8]) -> bool {
+    let these = stretch(bytes, from, to);
+    if is_whole(these) {
+        copy_whole(page, these);
+        return true;
+    }
+    false
+}
+
+// An answer to ECh has three copies: the first that is whole, and the first of all where none is.
+fn take_copy(bytes: &[u8], page: &mut [u8]) {
+    if take_whole(bytes, 0, 256, page) {
+        return;
+    }
+    if take_whole(bytes, 256, 512, page) {
+        return;
+    }
+    if take_whole(bytes, 512, 768, page) {
+        return;
+    }
+    let first = stretch(bytes, 0, 256);
+    copy_whole(page, first);
+}
+
+// One byte more than three copies have.
+pub type Answer = [u8; 769];
+
+// Whether what was read, `got` bytes, is a page or three copies of one: it is then the page.
+fn take_page(bytes: &[u8], got: usize, page: &mut [u8]) -> bool {
+    if got == 768 {
+        take_copy(bytes, page);
+        return true;
+    }
+    if got == 256 {
+        let these = stretch(bytes, 0, 256);
+        copy_whole(page, these);
+        return true;
+    }
+    false
+}
+
+fn taken(bytes: &Answer, got: usize, page: &mut Page) -> bool {
+    take_page(bytes, got, page)
+}
+
 fn page_from(fd: i32, path: &[u8], page: &mut Page) -> bool {
-    let got = io::read_full(fd, page);
-    let more = one_more(fd);
-    if more < 0 {
+    let mut bytes = [0u8; 769];
+    let got = io::read_full(fd, &mut bytes);
+    if one_more(fd) < 0 {
         failed(path);
         return false;
     }
-    if (got < 256) | (0 < more) {
+    if !taken(&bytes, got, page) {
         refuse(path, PowerRefusal::PageLength);
         return false;
     }
     true
 }
 
-// The page of a file, and the part that it describes.
-pub fn read_page(path: &[u8], page: &mut Page) -> Part {
+// The page of a file, 256 bytes or the three copies of an answer to ECh. Whether there is one; if not, a line says why.
+pub fn page_in(path: &[u8], page: &mut Page) -> bool {
     let fd = os::open_read(path);
     if fd < 0 {
         failed(path);
-        return no_part();
+        return false;
     }
     let good = page_from(fd, path, page);
     libc::close(fd);
-    if good {
+    good
+}
+
+// The page of a file, and the part that it describes.
+pub fn read_page(path: &[u8], page: &mut Page) -> Part {
+    if page_in(path, page) {
         planned(path, page, 0)
     } else {
         no_part()

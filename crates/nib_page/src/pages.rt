@@ -1,13 +1,13 @@
 // What a parameter page says.
 use libc::STDOUT_FILENO;
-use nib_files::files::one_more;
+use nib_files::part::Page;
+use nib_files::part::page_in;
 use nib_print::input::printable;
 use nib_print::pen::Paper;
 use nib_print::pen::Pen;
 use nib_print::pen::begin;
 use nib_print::pen::byte;
 use nib_print::pen::end_line;
-use nib_print::pen::failed;
 use nib_print::pen::flush;
 use nib_print::pen::number;
 use nib_print::pen::pad;
@@ -142,7 +142,7 @@ fn large_words(out: &mut Paper, p: Pen, l: Lengths) -> Pen {
     text(
         out,
         p,
-        b"holds arrays of at most 4194304 bytes; the library for hosts has no such limit",
+        b"holds arrays of at most 4194304 bytes; python3 -m nibtoggle has no such limit",
     )
 }
 
@@ -185,23 +185,16 @@ fn fields(out: &mut Paper, p: Pen, page: &[u8]) -> Pen {
     power_words(out, p, page)
 }
 
-// `nib page`.
-pub fn show_page(path: &[u8], out: &mut Paper) {
-    let fd = os::open_read(path);
-    if fd < 0 {
-        failed(path);
-        return;
-    }
-    let mut page = [0u8; 4096];
-    let n = io::read_full(fd, &mut page);
-    let more = one_more(fd);
-    if more < 0 {
-        failed(path);
-        libc::close(fd);
-        return;
-    }
-    libc::close(fd);
+fn shown(page: &Page, out: &mut Paper) {
     let p = begin(STDOUT_FILENO);
-    let p = fields(out, p, &page[..n]);
+    let p = fields(out, p, page);
     flush(out, p);
+}
+
+// `nib page`. What is no page is told of as an error, and no field of it is made up.
+pub fn show_page(path: &[u8], out: &mut Paper) {
+    let mut page = [0u8; 256];
+    if page_in(path, &mut page) {
+        shown(&page, out);
+    }
 }

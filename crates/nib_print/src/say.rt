@@ -6,7 +6,9 @@ use crate::pen::hex;
 use crate::pen::number;
 use crate::pen::put;
 use crate::pen::text;
+use power::PowerAnswer;
 use power::PowerRefusal;
+use power::power_number;
 use target::Event;
 use target::Output;
 use target::Target;
@@ -131,93 +133,102 @@ pub fn lun_meant(t: Target, e: Event) -> usize {
     }
 }
 
-fn lun_works(out: &mut Paper, p: Pen, t: Target, e: Event) -> Pen {
-    let p = with_number(out, p, b"LUN ", lun_meant(t, e));
-    text(out, p, b" is working")
-}
-
-fn others_work(out: &mut Paper, p: Pen, e: Event) -> Pen {
-    if e.value == 0x70 {
-        text(out, p, b"a LUN other than the selected one is working")
-    } else {
-        text(out, p, b"a LUN is working")
-    }
-}
-
-fn not_working(out: &mut Paper, p: Pen, t: Target, e: Event) -> Pen {
-    let g = t.geometry;
-    let n = e.value as usize;
-    if n < g.luns {
-        let p = with_number(out, p, b"LUN ", n);
-        text(out, p, b" is not working")
-    } else {
-        with_number(out, p, b"there is no LUN ", n)
-    }
-}
-
-// The sentence of a refusal's rule. `t` is the record that the event met.
-pub fn sentence(out: &mut Paper, p: Pen, number: u8, t: Target, e: Event) -> Pen {
+// The words of a refusal's rule. C and Python say the same: tools/words.py writes the header's from these, and Python asks for
+// these.
+pub fn rule(out: &mut Paper, p: Pen, number: u8) -> Pen {
     match number {
-        1 => text(out, p, b"no command of this part"),
-        2 => text(out, p, b"the first cycle must be FFh"),
-        3 => text(out, p, b"it doesn't fit the place reached"),
-        4 => text(out, p, b"the address is not in range"),
-        5 => lun_works(out, p, t, e),
-        6 => others_work(out, p, e),
-        7 => text(out, p, b"the protect line is low"),
-        8 => text(out, p, b"it is past the end"),
-        9 => text(out, p, b"a feature byte that is not offered"),
-        10 => not_working(out, p, t, e),
-        11 => text(out, p, b"a LUN is working or a sequence is open"),
-        12 => text(out, p, b"not a record"),
-        13 => text(out, p, b"the target is not powered"),
+        1 => text(
+            out,
+            p,
+            b"command byte not known, or not offered by this part",
+        ),
+        2 => text(out, p, b"bus cycle other than FFh before the first FFh"),
+        3 => text(out, p, b"known cycle that doesn't fit the place reached"),
+        4 => text(
+            out,
+            p,
+            b"row, column, feature or identification address not in range",
+        ),
+        5 => text(out, p, b"the LUN is working"),
+        6 => text(
+            out,
+            p,
+            b"a LUN is working; for 70h, one other than the selected LUN",
+        ),
+        7 => text(out, p, b"10h or D0h with the protect line low"),
+        8 => text(out, p, b"data in or out past the end"),
+        9 => text(out, p, b"feature byte not offered"),
+        10 => text(
+            out,
+            p,
+            b"finish of a LUN that is not working or doesn't exist",
+        ),
+        11 => text(
+            out,
+            p,
+            b"protect event while a LUN works or a sequence is open",
+        ),
+        12 => text(out, p, b"bad record"),
+        13 => text(
+            out,
+            p,
+            b"target not powered, or a length or a number of the record that can't be",
+        ),
+        16 => text(out, p, b"reply room too short"),
+        _ => power_rule(out, p, number),
+    }
+}
+
+fn power_rule(out: &mut Paper, p: Pen, number: u8) -> Pen {
+    match number {
+        20 => text(out, p, b"the parameter bytes are not 256"),
+        21 => text(out, p, b"the parameter bytes don't start with ONFI"),
+        22 => text(out, p, b"the CRC is not that of the parameter bytes"),
+        23 => text(
+            out,
+            p,
+            b"a field of the parameter bytes is outside its limits",
+        ),
+        24 => text(
+            out,
+            p,
+            b"a buffer's length is not what the parameter bytes give",
+        ),
+        25 => text(out, p, b"a count above programs a page, or a flag above 1"),
         _ => p,
     }
 }
 
-fn refused(out: &mut Paper, p: Pen, why: u8, t: Target, e: Event) -> Pen {
-    let p = with_number(out, p, b"refused ", why as usize);
+// 'refused 5: the LUN is working'
+pub fn refused(out: &mut Paper, p: Pen, number: u8) -> Pen {
+    let p = with_number(out, p, b"refused ", number as usize);
     let p = text(out, p, b": ");
-    sentence(out, p, why, t, e)
+    rule(out, p, number)
 }
 
-// A reply in words.
-pub fn reply(out: &mut Paper, p: Pen, first: u8, second: u8, t: Target, e: Event) -> Pen {
+// Refusal 5 names the LUN that is working.
+fn which(out: &mut Paper, p: Pen, number: u8, lun: usize) -> Pen {
+    if number == 5 {
+        let p = with_number(out, p, b" (LUN ", lun);
+        put(out, p, b')')
+    } else {
+        p
+    }
+}
+
+// A reply in words. `lun` is the LUN that the event is about, `lun_meant`.
+pub fn reply(out: &mut Paper, p: Pen, first: u8, second: u8, lun: usize) -> Pen {
     match first {
         0 => text(out, p, b"accepted"),
         1 => with_byte(out, p, b"byte ", second),
-        _ => refused(out, p, second, t, e),
+        _ => {
+            let p = refused(out, p, second);
+            which(out, p, second, lun)
+        }
     }
 }
 
 // A refused power-on in words.
 pub fn power_sentence(out: &mut Paper, p: Pen, why: PowerRefusal) -> Pen {
-    match why {
-        PowerRefusal::PageLength => text(out, p, b"refused 20: the page is not 256 bytes long"),
-        PowerRefusal::Signature => text(
-            out,
-            p,
-            b"refused 21: the page does not begin with the signature ONFI",
-        ),
-        PowerRefusal::Crc => text(
-            out,
-            p,
-            b"refused 22: the page's CRC is not that of its bytes",
-        ),
-        PowerRefusal::Field => text(
-            out,
-            p,
-            b"refused 23: a field of the page is outside its limits",
-        ),
-        PowerRefusal::BufferLength => text(
-            out,
-            p,
-            b"refused 24: a buffer's length is not what the page gives",
-        ),
-        PowerRefusal::Content => text(
-            out,
-            p,
-            b"refused 25: a count is above programs a page, or a flag is above 1",
-        ),
-    }
+    refused(out, p, power_number(PowerAnswer::Refused(why)))
 }

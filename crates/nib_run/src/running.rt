@@ -1,4 +1,5 @@
 // A trace as it comes, byte by byte: its replies as they are, or in words.
+use nib_args::May;
 use libc::STDOUT_FILENO;
 use nib_files::part::Array;
 use nib_files::part::Counts;
@@ -23,6 +24,7 @@ use nib_print::pen::put;
 use nib_print::pen::ranked;
 use nib_print::pen::text;
 use nib_print::say::event;
+use nib_print::say::lun_meant;
 use nib_print::say::power_sentence;
 use nib_print::say::reply;
 use nib_text::reading::up;
@@ -73,7 +75,7 @@ fn explained(
     let p = text(out, p, b"  ");
     let p = event(out, p, odd, e.kind, e.value);
     let p = pad(out, p, 43);
-    let p = reply(out, p, room[0], room[1], t, e);
+    let p = reply(out, p, room[0], room[1], lun_meant(t, e));
     end_line(out, p)
 }
 
@@ -345,10 +347,11 @@ fn goes_on(out: &mut Paper, dir: &[u8], words: bool, answer: PowerAnswer) -> boo
     }
 }
 
-// `nib run` and, in words, `nib explain`. Only what was powered, read to its end and answered whole is stored, and by `run`
-// alone.
+// `nib run` and, in words, `nib explain`. Only what was powered, read to its end and answered whole is stored, and by a command
+// that may store alone.
 pub fn on_folder(
     dir: &[u8],
+    may: May,
     words: bool,
     input: i32,
     out: &mut Paper,
@@ -380,7 +383,7 @@ pub fn on_folder(
         counts,
         flags,
     );
-    if good & !words {
+    if good & may.store {
         let l = part.lengths;
         store(dir, l, array, registers, counts);
     }

@@ -106,7 +106,7 @@ valueSaid Raw w = rawSaid w
 unfoldable pub wordSaid : Kind → Bool → Word → Said
 wordSaid k due w =
     pick (eqb (w .length) 0) said.Nothing
-    (pick (isLetter w) (pick due (said.Wrong wrong.NoValue) said.Nothing)
+    (pick (isLetter w) (pick due (said.Wrong wrong.Early) said.Nothing)
     (valueSaid k w))
 
 unfoldable pub wordKind : Kind → Word → Kind
@@ -115,7 +115,7 @@ wordKind k w = pick (isLetter w) (letterOf (w .first)) k
 unfoldable pub wordDue : Bool → Word → Bool
 wordDue due w = pick (eqb (w .length) 0) due (isLetter w)
 
--- the word ends; where the line ends too, no letter counts any more, and one with no value is wrong
+-- the word ends; where the line ends too, no letter counts any more, and one with no value is wrong. A second letter is told of first
 unfoldable pub ended : Reading → ℕ → Read
 ended r b = record {
   reading = record {
@@ -125,7 +125,7 @@ ended r b = record {
     word = noWord;
   };
   said =
-      pick (endsLine b && wordDue (r .due) (r .word)) (said.Wrong wrong.NoValue)
+      pick (endsLine b && wordDue (r .due) (r .word) && not (r .due && isLetter (r .word))) (said.Wrong wrong.NoValue)
       (wordSaid (r .kind) (r .due) (r .word));
 }
 

@@ -39,6 +39,8 @@ pub enum Wrong {
     NotByte,
     // not a decimal number, or too large
     NotNumber,
+    // a letter where the one before it wants a value
+    Early,
 }
 
 // What a byte of text adds to the trace.
@@ -242,7 +244,7 @@ pub fn value_said(k: Kind, w: Word) -> Said
 pub fn word_said(k: Kind, due: bool, w: Word) -> Said
     ensures { λ r. ⌜ r ≡ wordSaid k due w ⌝ }
 {
-    let letter = pick_said(due, Said::Wrong(Wrong::NoValue), Said::Nothing);
+    let letter = pick_said(due, Said::Wrong(Wrong::Early), Said::Nothing);
     let s = pick_said(is_letter(w), letter, value_said(k, w));
     pick_said(w.length == 0, Said::Nothing, s)
 }
@@ -268,8 +270,9 @@ pub fn ended(r: Reading, b: u8) -> Read
     let ends = ends_line(b);
     let due = word_due(r.due, w);
     let kind = pick_kind(ends, Kind::Nothing, word_kind(k, w));
+    let early = r.due & is_letter(w);
     let said = pick_said(
-        ends & due,
+        ends & due & !early,
         Said::Wrong(Wrong::NoValue),
         word_said(k, r.due, w),
     );

@@ -9,23 +9,21 @@ use nib_print::pen::begin;
 use nib_print::pen::count;
 use nib_print::pen::failed;
 use nib_print::pen::flush;
-use nib_print::pen::hex;
-use nib_print::pen::number;
 use nib_print::pen::put;
 use nib_print::pen::text;
 use nib_print::say::with_number;
-use nib_text::Kind;
+use nib_files::files::complain;
+use nib_files::files::one_more;
+use nib_speech::piece_written;
+use nib_speech::reason;
 use nib_text::reading::Reading;
 use nib_text::reading::Said;
 use nib_text::reading::Spot;
-use nib_text::reading::Wrong;
 use nib_text::reading::begun;
 use nib_text::reading::is_gap;
 use nib_text::reading::next;
 use nib_text::reading::spot_begun;
 use nib_text::reading::spot_next;
-use nib_text::writing::Piece;
-use nib_text::writing::Value;
 use nib_text::writing::Writing;
 use nib_text::writing::writing_begun;
 use nib_text::writing::wrote_end;
@@ -42,11 +40,12 @@ pub struct Text {
     pub pen: Pen,
     // bytes of the last word
     pub size: usize,
-    pub input: i32,
+    // nothing is written: the text is only looked at
+    pub mute: bool,
     pub going: bool,
 }
 
-fn text_begun(input: i32) -> Text {
+fn text_begun(mute: bool) -> Text {
     let reading = begun();
     let spot = spot_begun();
     let pen = begin(STDOUT_FILENO);
@@ -55,7 +54,7 @@ fn text_begun(input: i32) -> Text {
         spot,
         pen,
         size: 0,
-        input,
+        mute,
         going: true,
     }
 }
@@ -85,6 +84,10 @@ fn add_said(out: &mut Paper, p: Pen, said: Said) -> Pen {
     }
 }
 
+fn added(out: &mut Paper, p: Pen, mute: bool, said: Said) -> Pen {
+    if mute { p } else { add_said(out, p, said) }
+}
+
 fn is_wrong(said: Said) -> bool {
     match said {
         Said::Nothing => false,
@@ -92,19 +95,6 @@ fn is_wrong(said: Said) -> bool {
         Said::Byte(_) => false,
         Said::Outs(_) => false,
         Said::Wrong(_) => true,
-    }
-}
-
-fn reason(out: &mut Paper, p: Pen, why: Wrong) -> Pen {
-    match why {
-        Wrong::NoLetter => text(
-            out,
-            p,
-            b"no letter of c a d o f p x stands before it on its line",
-        ),
-        Wrong::NoValue => text(out, p, b"a letter with no value"),
-        Wrong::NotByte => text(out, p, b"not two hex digits"),
-        Wrong::NotNumber => text(out, p, b"not a decimal number, or too large"),
     }
 }
 
@@ -165,7 +155,7 @@ fn text_byte(t: Text, b: u8, out: &mut Paper, word: &mut Last) -> Text {
     let spot = spot_next(s, r, b);
     let said = read.said;
     let reading = read.reading;
-    let pen = add_said(out, p, said);
+    let pen = added(out, p, t.mute, said);
     let wrong = is_wrong(said);
     if wrong {
         tell_wrong(s.line, spot, word, size, said);
@@ -190,93 +180,59 @@ fn text_bytes(from: Text, chunk: &[u8], out: &mut Paper, word: &mut Last) -> Tex
     t
 }
 
-fn text_flushed(t: Text, out: &Paper, more: bool) -> Text {
-    let p = t.pen;
-    let pen = flush(out, p);
-    let going = t.going & more & pen.good;
-    Text { pen, going, ..t }
-}
-
-fn text_turn(t: Text, out: &mut Paper, word: &mut Last) -> Text {
-    let mut chunk = [0u8; 4096];
-    let got = libc::read(t.input, &mut chunk);
-    if got < 0 {
-        failed(b"standard input");
-        return Text { going: false, ..t };
-    }
-    let n = io::count(got, &chunk);
-    if n == 0 {
-        let t = text_byte(t, b'\n', out, word);
-        return text_flushed(t, out, false);
-    }
-    let t = text_bytes(t, &chunk[..n], out, word);
-    text_flushed(t, out, true)
-}
-
-// `nib text`. What stands before a bad word is written, and nothing after it.
-pub fn from_text(input: i32, out: &mut Paper) {
+// The whole text, and the line end that is read after it. Whether every word is good; a bad one is told of.
+fn text_whole(mute: bool, whole: &[u8], out: &mut Paper) -> Text {
     let mut word = [0u8; 32];
-    let mut t = text_begun(input);
-    let mut turns: u64 = 18446744073709551615;
-    while 0 < turns {
-        t = text_turn(t, out, &mut word);
-        turns = left(turns, t.going);
+    let t = text_bytes(text_begun(mute), whole, out, &mut word);
+    text_byte(t, b'\n', out, &mut word)
+}
+
+// As much text as is held.
+pub type Whole = [u8; 1048576];
+
+// How long the text of an input is; more than is held where it is too long or can't be read, which is told of.
+fn text_length(input: i32, whole: &mut Whole) -> usize {
+    let n = io::read_full(input, whole);
+    let more = one_more(input);
+    if more < 0 {
+        failed(b"standard input");
+        return 1048577;
+    }
+    if 0 < more {
+        complain(
+            b"standard input",
+            b": a text of more than ",
+            1048576,
+            b" bytes; python3 -m nibtoggle text has no such limit\n",
+        );
+        return 1048577;
+    }
+    n
+}
+
+// Looked at once, and then read.
+fn twice(whole: &[u8], n: usize, out: &mut Paper) {
+    let n = count(n, whole);
+    let seen = text_whole(true, &whole[..n], out);
+    if seen.going {
+        let t = text_whole(false, &whole[..n], out);
+        let p = t.pen;
+        flush(out, p);
     }
 }
 
-fn letter(out: &mut Paper, p: Pen, k: Kind) -> Pen {
-    match k {
-        Kind::Nothing => p,
-        Kind::Command => put(out, p, b'c'),
-        Kind::Address => put(out, p, b'a'),
-        Kind::DataIn => put(out, p, b'd'),
-        Kind::DataOut => put(out, p, b'o'),
-        Kind::Finish => put(out, p, b'f'),
-        Kind::Protect => put(out, p, b'p'),
-        Kind::Raw => put(out, p, b'x'),
+fn whole_twice(whole: &Whole, n: usize, out: &mut Paper) {
+    twice(whole, n, out)
+}
+
+// `nib text`. The whole text is looked at before a record is written: where a word is bad there is no trace, so that none is
+// run in part.
+pub fn from_text(input: i32, out: &mut Paper) {
+    let mut whole = [0u8; 1048576];
+    let n = text_length(input, &mut whole);
+    if n <= 1048576 {
+        whole_twice(&whole, n, out);
     }
-}
-
-fn spaced(out: &mut Paper, p: Pen, b: u8) -> Pen {
-    let p = put(out, p, b' ');
-    hex(out, p, b, b'a')
-}
-
-fn value(out: &mut Paper, p: Pen, v: Value) -> Pen {
-    match v {
-        Value::Nothing => p,
-        Value::Byte(b) => spaced(out, p, b),
-        Value::Number(n) => {
-            let p = put(out, p, b' ');
-            number(out, p, n as usize)
-        }
-        Value::Pair { kind, value } => {
-            let p = spaced(out, p, kind);
-            spaced(out, p, value)
-        }
-    }
-}
-
-fn counted_outs(out: &mut Paper, p: Pen, n: usize) -> Pen {
-    if n == 0 {
-        return p;
-    }
-    let p = with_number(out, p, b"o ", n);
-    put(out, p, b'\n')
-}
-
-fn closed(out: &mut Paper, p: Pen, close: bool) -> Pen {
-    if close { put(out, p, b'\n') } else { p }
-}
-
-// What there is to write.
-fn piece_written(out: &mut Paper, p: Pen, piece: Piece) -> Pen {
-    let k = piece.letter;
-    let v = piece.value;
-    let p = counted_outs(out, p, piece.outs);
-    let p = closed(out, p, piece.close);
-    let p = letter(out, p, k);
-    value(out, p, v)
 }
 
 // How far a trace has come on its way to text.

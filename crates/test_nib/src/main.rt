@@ -24,6 +24,8 @@ fn texts() {
     tried(b"text -d, of many", Asked::Back, b"", b"", b"many");
     tried(b"text, of many", Asked::Text, b"", b"", b"many_text");
     tried(b"help", Asked::Help, b"", b"", b"look");
+    tried(b"parts", Asked::Parts, b"", b"", b"look");
+    tried(b"version", Asked::Version, b"", b"", b"look");
 }
 
 fn runs() {
@@ -61,6 +63,7 @@ fn folders() {
         b"tiny/page",
         b"look",
     );
+    tried(b"new other T2", Asked::NewFrom, b"other", b"T2", b"look");
 }
 
 fn main() {

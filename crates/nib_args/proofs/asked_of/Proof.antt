@@ -11,6 +11,9 @@ slice-aggregate-is-word c = search needs
 is-word-requires : tie.Need-is-word-requires
 is-word-requires c κs = search needs
 
+dashed-requires : tie.Need-dashed-requires
+dashed-requires c κs = search needs
+
 pick-asked-requires : tie.Need-pick-asked-requires
 pick-asked-requires c κs = search needs
 
@@ -34,13 +37,15 @@ returns c =
     let c3 = c2 .before in
     let c4 = c3 .before in
     let c5 = c4 .before in
+    let c6 = c5 .before in
     rw (
       c .pick-asked3 .ensures,
       c1 .alone .ensures,
       c2 .pick-asked2 .ensures,
       c3 .with-one .ensures,
       c4 .pick-asked .ensures,
-      c5 .is-word .ensures,
+      c5 .dashed .ensures,
+      c6 .is-word .ensures,
     )
 
 pub asked-of-spec : {M : Type 1} → statement M
@@ -49,6 +54,7 @@ asked-of-spec =
     (tie.spec
     slice-aggregate-is-word
     is-word-requires
+    dashed-requires
     pick-asked-requires
     with-one-requires
     pick-asked-requires-2

@@ -17,6 +17,9 @@ word-kind-requires c κs = search needs
 pick-kind-requires : tie.Need-pick-kind-requires
 pick-kind-requires c κs = search needs
 
+is-letter-requires : tie.Need-is-letter-requires
+is-letter-requires c κs = search needs
+
 word-said-requires : tie.Need-word-said-requires
 word-said-requires c κs = search needs
 
@@ -31,18 +34,20 @@ unfolding ended
 returns c =
     let c1 = c .before in
     let c2 = c1 .before in
-    let c3 = c2 .before in
-    let c4 = c3 .before in
+    let c4 = c2 .before .before in
     let c5 = c4 .before in
     let c6 = c5 .before in
+    let c7 = c6 .before in
+    let c8 = c7 .before in
     rw (
       c .no-word .ensures,
       c1 .pick-said .ensures,
       c2 .word-said .ensures,
-      c3 .pick-kind .ensures,
-      c4 .word-kind .ensures,
-      c5 .word-due .ensures,
-      c6 .ends-line .ensures,
+      c4 .is-letter .ensures,
+      c5 .pick-kind .ensures,
+      c6 .word-kind .ensures,
+      c7 .word-due .ensures,
+      c8 .ends-line .ensures,
     )
 
 pub ended-spec : {M : Type 1} → statement M
@@ -53,6 +58,7 @@ ended-spec =
     word-due-requires
     word-kind-requires
     pick-kind-requires
+    is-letter-requires
     word-said-requires
     pick-said-requires
     no-word-requires

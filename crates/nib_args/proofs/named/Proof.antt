@@ -1,0 +1,81 @@
+-- `nib_args::named` meets its contract.
+-- Assumes nothing.
+use Rattle.nib_args.specs.Asked.{named}
+use borrow.Author.Needs.{needs}
+use Rattle.nib_args.proofs.named.Statement.{statement}
+use Rattle.nib_args.proofs.named.Tie as tie
+
+slice-aggregate-is-word : tie.Need-slice-aggregate-is-word
+slice-aggregate-is-word c = search needs
+
+is-word-requires : tie.Need-is-word-requires
+is-word-requires c κs = search needs
+
+pick-asked-requires : tie.Need-pick-asked-requires
+pick-asked-requires c κs = search needs
+
+slice-aggregate-is-word-2 : tie.Need-slice-aggregate-is-word-2
+slice-aggregate-is-word-2 c = search needs
+
+is-word-requires-2 : tie.Need-is-word-requires-2
+is-word-requires-2 c κs = search needs
+
+pick-asked-requires-2 : tie.Need-pick-asked-requires-2
+pick-asked-requires-2 c κs = search needs
+
+slice-aggregate-is-word-3 : tie.Need-slice-aggregate-is-word-3
+slice-aggregate-is-word-3 c = search needs
+
+is-word-requires-3 : tie.Need-is-word-requires-3
+is-word-requires-3 c κs = search needs
+
+pick-asked-requires-3 : tie.Need-pick-asked-requires-3
+pick-asked-requires-3 c κs = search needs
+
+slice-aggregate-is-word-4 : tie.Need-slice-aggregate-is-word-4
+slice-aggregate-is-word-4 c = search needs
+
+is-word-requires-4 : tie.Need-is-word-requires-4
+is-word-requires-4 c κs = search needs
+
+pick-asked-requires-4 : tie.Need-pick-asked-requires-4
+pick-asked-requires-4 c κs = search needs
+
+returns : tie.Need-returns
+unfolding named
+returns c =
+    let c1 = c .before in
+    let c3 = c1 .before .before in
+    let c4 = c3 .before in
+    let c6 = c4 .before .before in
+    let c7 = c6 .before in
+    let c9 = c7 .before .before in
+    let c10 = c9 .before in
+    rw (
+      c .pick-asked4 .ensures,
+      c1 .is-word4 .ensures,
+      c3 .pick-asked3 .ensures,
+      c4 .is-word3 .ensures,
+      c6 .pick-asked2 .ensures,
+      c7 .is-word2 .ensures,
+      c9 .pick-asked .ensures,
+      c10 .is-word .ensures,
+    )
+
+pub named-spec : {M : Type 1} → statement M
+named-spec =
+    tie.close
+    (tie.spec
+    slice-aggregate-is-word
+    is-word-requires
+    pick-asked-requires
+    slice-aggregate-is-word-2
+    is-word-requires-2
+    pick-asked-requires-2
+    slice-aggregate-is-word-3
+    is-word-requires-3
+    pick-asked-requires-3
+    slice-aggregate-is-word-4
+    is-word-requires-4
+    pick-asked-requires-4
+    returns)

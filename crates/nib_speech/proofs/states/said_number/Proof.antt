@@ -1,0 +1,94 @@
+-- `nib_speech::states::said_number` meets its contract.
+-- Assumes nothing.
+use borrow.Author.Needs.{needs}
+use Rattle.nib_speech.proofs.states.said_number.Statement.{statement}
+use Rattle.nib_speech.proofs.states.said_number.Tie as tie
+
+enum-told : tie.Need-enum-told
+enum-told c = search needs
+
+enum-known-s : tie.Need-enum-known-s
+enum-known-s c = search needs
+
+cast-result : tie.Need-cast-result
+cast-result c = search needs
+
+mul-result : tie.Need-mul-result
+mul-result c = search needs
+
+add-result : tie.Need-add-result
+add-result c = search needs
+
+cast-result-2 : tie.Need-cast-result-2
+cast-result-2 c = search needs
+
+add-result-2 : tie.Need-add-result-2
+add-result-2 c = search needs
+
+enum-known-s-2 : tie.Need-enum-known-s-2
+enum-known-s-2 c = search needs
+
+cast-result-3 : tie.Need-cast-result-3
+cast-result-3 c = search needs
+
+add-result-3 : tie.Need-add-result-3
+add-result-3 c = search needs
+
+enum-known-s-3 : tie.Need-enum-known-s-3
+enum-known-s-3 c = search needs
+
+add-result-4 : tie.Need-add-result-4
+add-result-4 c = search needs
+
+enum-known-s-4 : tie.Need-enum-known-s-4
+enum-known-s-4 c = search needs
+
+wrong-number-requires : tie.Need-wrong-number-requires
+wrong-number-requires c κs = search needs
+
+cast-result-4 : tie.Need-cast-result-4
+cast-result-4 c = search needs
+
+add-result-5 : tie.Need-add-result-5
+add-result-5 c = search needs
+
+returns : tie.Need-returns
+returns c = rw (c .enum-told .given .1)
+
+returns-2 : tie.Need-returns-2
+returns-2 c = rw (c .before .s .given .1)
+
+returns-3 : tie.Need-returns-3
+returns-3 c = rw (c .before .s2 .given .1)
+
+returns-4 : tie.Need-returns-4
+returns-4 c = rw (c .before .s3 .given .1)
+
+returns-5 : tie.Need-returns-5
+returns-5 c = rw (c .wrong-number .ensures, c .before .before .s4 .given .1)
+
+pub said-number-spec : {M : Type 1} → statement M
+said-number-spec =
+    tie.close
+    (tie.spec
+    enum-told
+    enum-known-s
+    cast-result
+    mul-result
+    add-result
+    cast-result-2
+    add-result-2
+    enum-known-s-2
+    cast-result-3
+    add-result-3
+    enum-known-s-3
+    add-result-4
+    enum-known-s-4
+    wrong-number-requires
+    cast-result-4
+    add-result-5
+    returns
+    returns-2
+    returns-3
+    returns-4
+    returns-5)

@@ -1,0 +1,37 @@
+-- `nib_speech::states::wrong_of` meets its contract.
+-- Assumes nothing.
+use borrow.Author.Tests.{eq-eqb, ne-eqb}
+use Rattle.nib_speech.specs.Speech.{wrongOf}
+use borrow.Author.Needs.{needs}
+use Rattle.nib_speech.proofs.states.wrong_of.Statement.{statement}
+use Rattle.nib_speech.proofs.states.wrong_of.Tie as tie
+
+returns : tie.Need-returns
+unfolding wrongOf
+returns c = rw (eq-eqb _ _ (c .if1 .taken))
+
+returns-2 : tie.Need-returns-2
+unfolding wrongOf
+returns-2 c = rw (ne-eqb _ _ (c .before .if1 .left), eq-eqb _ _ (c .if2 .taken))
+
+returns-3 : tie.Need-returns-3
+unfolding wrongOf
+returns-3 c = rw (ne-eqb _ _ (c .before .before .if1 .left), ne-eqb _ _ (c .before .if2 .left), eq-eqb _ _ (c .if3 .taken))
+
+returns-4 : tie.Need-returns-4
+unfolding wrongOf
+returns-4 c = rw (ne-eqb _ _ (c .before .before .before .if1 .left), ne-eqb _ _ (c .before .before .if2 .left), ne-eqb _ _ (c .before .if3 .left), eq-eqb _ _ (c .if4 .taken))
+
+returns-5 : tie.Need-returns-5
+unfolding wrongOf
+returns-5 c = rw (ne-eqb _ _ (c .before .before .before .if1 .left), ne-eqb _ _ (c .before .before .if2 .left), ne-eqb _ _ (c .before .if3 .left), ne-eqb _ _ (c .if4 .left))
+
+pub wrong-of-spec : {M : Type 1} → statement M
+wrong-of-spec =
+    tie.close
+    (tie.spec
+    returns
+    returns-2
+    returns-3
+    returns-4
+    returns-5)

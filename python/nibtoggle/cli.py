@@ -1,0 +1,332 @@
+"""`python3 -m nibtoggle`: nib's commands on part folders of any size, with true exit statuses.
+
+0; 1 for an error, which is one line on standard error; 2 for a wrong call; 3 where what was expected did not hold.
+"""
+from __future__ import annotations
+
+import os
+import sys
+import warnings
+from pathlib import Path
+from typing import BinaryIO, Callable, Dict, Iterator, NoReturn, Sequence, TextIO, Tuple, Union
+
+from . import folder, parts, text
+from ._library import Library
+from .bench import Bench, make_folder, page_named, page_refusal
+from .part import FIELDS, PAGE_LENGTH, Part, crc, fields_outside
+from .replies import ADDRESS, DATA_OUT, Refused
+
+NAME = "nibtoggle"
+OK, ERROR, WRONG_CALL, NOT_AS_EXPECTED = range(4)
+USAGE = """\
+  nibtoggle new DIR [PART]         makes a part folder: part T1, one of `parts`, or the part of a page in a file
+  nibtoggle parts                  the parts that have a name
+  nibtoggle run DIR < TRACE        replies on standard output; the folder is brought up to date
+  nibtoggle explain DIR < TRACE    the same in words; the folder stays as it is
+  nibtoggle page FILE              what a parameter page says, and power-on's answer
+  nibtoggle dump DIR LUN BLOCK PAGE   a page of the array; the folder stays as it is
+  nibtoggle diff DIR DIR           where two parts differ; status 3 if they do
+  nibtoggle text < TEXT > TRACE    a trace from text, as: c 80  a 00 00 37 00 00  d 3c  o 16  f 1  p 0
+  nibtoggle text -d < TRACE        a trace as text
+  nibtoggle version                the version
+  nibtoggle help                   these lines
+"""
+#: A trace is run so many bytes at a time.
+_STRETCH = 1 << 20
+#: enum nib_sequence of the header: row cycles are due. enum nib_output: a register's or a status's bytes come out.
+_ROWS, _OF_A_LUN = 2, (1, 3)
+
+
+class WrongCall(Exception):
+    """The arguments name no command."""
+
+
+class Failed(Exception):
+    """The command could not be done; the message goes to standard error."""
+
+
+def _page_in(path: Path) -> bytes:
+    """The page that a file holds: 256 bytes, or the first good one of an ECh answer's three."""
+    with open(path, "rb") as file:
+        return parts.page_of(file.read(3 * PAGE_LENGTH + 1))
+
+
+def _refused(path: Union[str, Path], refused: Refused) -> Failed:
+    library = Library.any()
+    said = library.words(library.say_reply, 2, refused.number, 0)
+    return Failed("%s: power-on %s%s" % (path, said, "; " + refused.detail if refused.detail else ""))
+
+
+def _open(path: str, strict: bool = True) -> Bench:
+    try:
+        return Bench.open(path, strict=strict)
+    except Refused as refused:
+        raise _refused(path if refused.number == 25 else Path(path) / "page", refused) from None
+
+
+def new(words: Sequence[str], out: TextIO) -> int:
+    where, part = Path(words[0]), words[1] if len(words) > 1 else "T1"
+    named: Union[str, bytes] = part if part in parts.PARTS else _page_in(Path(part))
+    try:
+        with warnings.catch_warnings(record=True) as told:
+            warnings.simplefilter("always")
+            make_folder(where, named)
+    except Refused as refused:
+        raise _refused(part, refused) from None
+    for warning in told:
+        print("%s: %s" % (NAME, warning.message), file=sys.stderr)
+    made = Part.of(page_named(named)[0])
+    out.write("%s: page 256 bytes, id 1, array %d, counts %d, flags %d\n" % (where, made.array_length, made.counts_length, made.flags_length))
+    return OK
+
+
+def known(words: Sequence[str], out: TextIO) -> int:
+    for part in parts.PARTS.values():
+        out.write("%-20s %s, device ID %02Xh\n" % (part.name, parts.part_words(part.page), part.device_id))
+    return OK
+
+
+def page(words: Sequence[str], out: TextIO) -> int:
+    path = Path(words[0])
+    bytes_ = parts.PARTS[words[0]].page if words[0] in parts.PARTS else _page_in(path)
+    refused = page_refusal(bytes_)
+    if refused is not None and refused.number == 20:
+        raise Failed("%s: has %d bytes, and a page has 256, or three copies 768" % (path, path.stat().st_size))
+
+    def letters(first: int, last: int) -> str:
+        return "".join(chr(b) if 32 <= b < 127 else "." for b in bytes_[first:last])
+
+    def number(at: int, size: int) -> int:
+        return int.from_bytes(bytes_[at:at + size], "little")
+
+    lines = [("signature", letters(0, 4)), ("features", "%04Xh" % number(6, 2)), ("optional commands", "%04Xh" % number(8, 2)),
+             ("maker", letters(32, 44)), ("model", letters(44, 64)), ("maker ID", "%02Xh" % bytes_[64])]
+    lines += [(name, "%d" % number(at, size)) for name, at, size, _, _ in FIELDS]
+    lines += [("address cycles", "column %d, row %d" % (bytes_[101] >> 4, bytes_[101] & 15)),
+              ("CRC", "%04Xh  of its bytes %04Xh" % (number(254, 2), crc(bytes_[:254])))]
+    lines += [("outside", said) for said in fields_outside(bytes_)]
+    library = Library.any()
+    if refused is None:
+        part = Part.of(bytes_)
+        said = "accepted, with an array of %d bytes, registers of %d, counts of %d, flags of %d" % (
+            part.array_length, part.registers_length, part.counts_length, part.flags_length)
+    else:
+        said = library.words(library.say_reply, 2, refused.number, 0)
+    for name, value in lines + [("power-on", said)]:
+        out.write("%-18s %s\n" % (name, value))
+    return OK
+
+
+def _input() -> Iterator[bytes]:
+    """Standard input in stretches, each of whole records but the last."""
+    kept = b""
+    while True:
+        got = sys.stdin.buffer.read(_STRETCH)
+        if not got:
+            break
+        kept += got
+        whole = len(kept) // 2 * 2
+        yield kept[:whole]
+        kept = kept[whole:]
+    if kept:
+        yield kept
+
+
+def run(words: Sequence[str], out: TextIO) -> int:
+    bench = _open(words[0])
+    replies: BinaryIO = out.buffer
+    try:
+        for records in _input():
+            replies.write(bench.trace(records).raw)
+        replies.flush()
+        bench.save()
+    finally:
+        bench.close()
+    return OK
+
+
+def lun_meant(bench: Bench, record: bytes) -> int:
+    """The LUN that a cycle which a working LUN refuses is about: that of the output, of the row that the cycle makes whole, or the selected
+    one."""
+    target = bench.target
+    if record[0] == DATA_OUT:
+        return int(target.output_lun) if target.output in _OF_A_LUN else int(target.selected)
+    if record[0] == ADDRESS and target.sequence == _ROWS:
+        return bench.part.lun_of(target.low | target.mid << 8 | record[-1] << 16)
+    return int(target.selected)
+
+
+def explained(bench: Bench, records: bytes, first: int = 1) -> Iterator[str]:
+    """What `explain` says of each record, which is run."""
+    for number, record in enumerate(text.pairs(records), first):
+        lun = lun_meant(bench, record)
+        yield text.line_of(number, record, bench.trace(record).raw, lun)
+
+
+def explain(words: Sequence[str], out: TextIO) -> int:
+    bench = _open(words[0], strict=False)
+    library = Library.any()
+    answer = bench.power_on()
+    out.write("power-on %s\n" % library.words(library.say_reply, 2 if answer else 0, answer, 0))
+    number = 1
+    for records in _input():
+        for line in explained(bench, records, number):
+            out.write(line + "\n")
+        number += len(records) // 2
+    bench.close()
+    return OK
+
+
+def text_or_back(words: Sequence[str], out: TextIO) -> int:
+    whole = sys.stdin.buffer.read()
+    if words:
+        out.write(text.text_of(whole))
+    else:
+        out.buffer.write(text.records_of(whole, "standard input"))
+    return OK
+
+
+def _number(name: str, word: str) -> int:
+    try:
+        return int(word, 0)
+    except ValueError:
+        raise WrongCall("%s is a number, and %r is none" % (name, word)) from None
+
+
+def dump(words: Sequence[str], out: TextIO) -> int:
+    bench = _open(words[0], strict=False)
+    lun, block, index = (_number(name, word) for name, word in zip(("LUN", "block", "page"), words[1:]))
+    held = bytes(bench.page_of(lun, block, index))
+    count = bench.counts[bench.part.page_number(lun, block, index)]
+    bad = bench.flags[lun * bench.part.blocks + block]
+    out.write("LUN %d, block %d, page %d: programmed %d times%s\n" % (lun, block, index, count, "; a factory bad block" if bad else ""))
+    last, skipping = b"", False
+    for at in range(0, len(held), 16):
+        row = held[at:at + 16]
+        if row == last and at + 16 < len(held):
+            if not skipping:
+                out.write("*\n")
+            skipping = True
+            continue
+        last, skipping = row, False
+        out.write("%04X  %-47s  %s\n" % (at, row.hex(" ").upper(), "".join(chr(b) if 32 <= b < 127 else "." for b in row)))
+    bench.close()
+    return OK
+
+
+def _differences(one: Bench, other: Bench) -> Iterator[str]:
+    if bytes(one.page) != bytes(other.page):
+        at = [i for i in range(PAGE_LENGTH) if one.page[i] != other.page[i]]
+        yield "page: %d bytes differ, the first is byte %d: %02Xh and %02Xh" % (len(at), at[0], one.page[at[0]], other.page[at[0]])
+    if one.device_id != other.device_id:
+        yield "id: %02Xh and %02Xh" % (one.device_id, other.device_id)
+    if one.part != other.part:
+        yield "array, counts and flags are of other lengths, and are not compared"
+        return
+    part = one.part
+    for lun in range(part.luns):
+        for block in range(part.blocks):
+            flag = lun * part.blocks + block
+            if one.flags[flag] != other.flags[flag]:
+                yield "LUN %d, block %d: flag %d and %d" % (lun, block, one.flags[flag], other.flags[flag])
+            start, size = part.page_start(lun, block, 0), part.pages * part.page_size
+            number = part.page_number(lun, block, 0)
+            if one.array[start:start + size] == other.array[start:start + size] \
+                    and one.counts[number:number + part.pages] == other.counts[number:number + part.pages]:
+                continue
+            for index in range(part.pages):
+                yield from _page_differences(one, other, lun, block, index)
+
+
+def _page_differences(one: Bench, other: Bench, lun: int, block: int, index: int) -> Iterator[str]:
+    where = "LUN %d, block %d, page %d: " % (lun, block, index)
+    a, b = bytes(one.page_of(lun, block, index)), bytes(other.page_of(lun, block, index))
+    if a != b:
+        at = [i for i, (x, y) in enumerate(zip(a, b)) if x != y]
+        yield where + "%d bytes differ, the first at column %d: %02Xh and %02Xh" % (len(at), at[0], a[at[0]], b[at[0]])
+    number = one.part.page_number(lun, block, index)
+    if one.counts[number] != other.counts[number]:
+        yield where + "programmed %d times and %d" % (one.counts[number], other.counts[number])
+
+
+def diff(words: Sequence[str], out: TextIO) -> int:
+    one, other = _open(words[0], strict=False), _open(words[1], strict=False)
+    found = 0
+    for line in _differences(one, other):
+        out.write(line + "\n")
+        found += 1
+    one.close()
+    other.close()
+    return NOT_AS_EXPECTED if found else OK
+
+
+def version(words: Sequence[str], out: TextIO) -> int:
+    from . import __version__
+    number: int = Library.found().version()
+    out.write("%s %s, library %d.%d.%d\n" % (NAME, __version__, number >> 16, number >> 8 & 255, number & 255))
+    return OK
+
+
+def helped(words: Sequence[str], out: TextIO) -> int:
+    out.write(USAGE)
+    return OK
+
+
+Command = Callable[[Sequence[str], TextIO], int]
+#: Each command, and how many words may come after it.
+COMMANDS: Dict[str, Tuple[Command, Tuple[int, ...]]] = {
+    "new": (new, (1, 2)), "parts": (known, (0,)), "run": (run, (1,)), "explain": (explain, (1,)), "page": (page, (1,)),
+    "dump": (dump, (4,)), "diff": (diff, (2,)), "text": (text_or_back, (0, 1)), "version": (version, (0,)), "help": (helped, (0,)),
+    "--help": (helped, (0,)), "-h": (helped, (0,)), "--version": (version, (0,)),
+}
+
+
+def _asked(words: Sequence[str]) -> Tuple[Command, Sequence[str]]:
+    if not words or words[0] not in COMMANDS:
+        raise WrongCall("no such call; these are:")
+    command, counts = COMMANDS[words[0]]
+    rest = list(words[1:])
+    if "--help" in rest or "-h" in rest:
+        return helped, []
+    flags = [word for word in rest if word.startswith("-")]
+    if len(rest) not in counts or flags != (["-d"] if words[0] == "text" and rest else []):
+        raise WrongCall("no such call; these are:")
+    return command, rest
+
+
+def main(words: Sequence[str]) -> int:
+    try:
+        command, rest = _asked(words)
+        status = command(rest, sys.stdout)
+        sys.stdout.flush()
+        return status
+    except WrongCall as wrong:
+        print("%s: %s" % (NAME, wrong), file=sys.stderr)
+        sys.stderr.write(USAGE)
+        return WRONG_CALL
+    except BrokenPipeError:
+        # whoever read has left: nobody is to be told
+        os.dup2(os.open(os.devnull, os.O_WRONLY), sys.stdout.fileno())
+        return ERROR
+    except (Failed, folder.FolderError, text.BadWord) as failed:
+        print("%s: %s" % (NAME, failed), file=sys.stderr)
+    except OSError as failed:
+        where = failed.filename if failed.filename is not None else "standard input or output"
+        print("%s: %s: %s" % (NAME, where, failed.strerror or failed), file=sys.stderr)
+    except ValueError as failed:
+        print("%s: %s" % (NAME, failed), file=sys.stderr)
+    _drop_output()
+    return ERROR
+
+
+def _drop_output() -> None:
+    """What could not be written is not tried again at exit."""
+    try:
+        sys.stdout.flush()
+    except OSError:
+        os.dup2(os.open(os.devnull, os.O_WRONLY), sys.stdout.fileno())
+
+
+def script() -> NoReturn:
+    """The command `nibtoggle` of an installed package."""
+    sys.exit(main(sys.argv[1:]))

@@ -1,0 +1,86 @@
+"""A trace as people write it, and in words. The grammar and the words are the proved library's own (nib has the same): this module feeds
+bytes to it and gathers what it says."""
+from __future__ import annotations
+
+from typing import Iterator, List, Optional, Tuple, Type, Union
+
+from ._library import Library
+from .replies import DATA_OUT
+
+#: What a byte of text adds to the trace, as `nib_text_said` numbers it.
+_RECORD, _BYTE, _OUTS, _WRONG = range(1, 5)
+
+
+class BadWord(ValueError):
+    """A word of a text that is no part of a trace: `line` and `place` count from 1, `word` is it as a terminal can show it."""
+
+    def __init__(self, name: str, line: int, place: int, word: str, why: str) -> None:
+        super().__init__("%s, line %d, place %d: '%s': %s" % (name, line, place, word, why))
+        self.name, self.line, self.place, self.word, self.why = name, line, place, word, why
+
+    def __reduce__(self) -> Tuple[Type["BadWord"], Tuple[str, int, int, str, str]]:
+        return type(self), (self.name, self.line, self.place, self.word, self.why)
+
+
+def records_of(text: Union[str, bytes], name: str = "text", library: Optional[Library] = None) -> bytes:
+    """Text to trace. A word that is wrong raises BadWord, and there is no trace at all: none is to be run in part."""
+    said = library if library is not None else Library.found()
+    whole = text.encode("utf-8") if isinstance(text, str) else text
+    trace: List[bytes] = []
+    state = start = 0
+    for at, byte in enumerate(whole + b"\n"):
+        if said.text_begins(state, byte):
+            start = at
+        added: int = said.text_said(state, byte)
+        if added:
+            what, value = added >> 16, added & 0xFFFF
+            if what == _RECORD:
+                trace.append(value.to_bytes(2, "big"))
+            elif what == _BYTE:
+                trace.append(bytes((value,)))
+            elif what == _OUTS:
+                trace.append(bytes((DATA_OUT, 0)) * value)
+            else:
+                raise _bad_word(said, name, whole, start, at, value)
+        state = said.text_next(state, byte)
+    return b"".join(trace)
+
+
+def _bad_word(said: Library, name: str, text: bytes, start: int, end: int, why: int) -> BadWord:
+    """The last word, as much of it as an error shows."""
+    line_start = text.rfind(b"\n", 0, start) + 1
+    word = text[start:end].split(None, 1)[:1] or [b""]
+    shown = "".join(chr(b) if 32 <= b < 127 else "." for b in word[0].split(b"#")[0][:32])
+    return BadWord(name, text.count(b"\n", 0, start) + 1, start - line_start + 1, shown, said.words(said.say_wrong, why))
+
+
+def text_of(records: bytes, library: Optional[Library] = None) -> str:
+    """Trace to text: a line a command, addresses and data in up to 16 on a line, data outs in a row as one count."""
+    said = library if library is not None else Library.found()
+    out: List[str] = []
+    state = 0
+    for byte in records:
+        out.append(said.words(said.back_text, state, byte))
+        state = said.back_next(state, byte)
+    out.append(said.words(said.back_end, state))
+    return "".join(out)
+
+
+def event_words(kind: int, value: int, library: Optional[Library] = None) -> str:
+    """An event in words: 'command 80h  program', 'finish LUN 1'."""
+    said = library if library is not None else Library.found()
+    return said.words(said.say_event, 0, kind, value)
+
+
+def line_of(number: int, record: bytes, reply: bytes, lun: int, library: Optional[Library] = None) -> str:
+    """A line of `explain`: the record's number, the event, the answer."""
+    said = library if library is not None else Library.found()
+    odd = len(record) == 1
+    line = "%6d  %s" % (number, said.words(said.say_event, int(odd), record[0], 0 if odd else record[1]))
+    return line + " " * max(1, 44 - len(line)) + said.words(said.say_reply, reply[0], reply[1], lun)
+
+
+def pairs(records: bytes) -> Iterator[bytes]:
+    """The records one by one, and the odd last byte."""
+    for at in range(0, len(records), 2):
+        yield records[at:at + 2]

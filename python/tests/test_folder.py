@@ -1,0 +1,266 @@
+"""One part for all: Python on nib's part folders, parts by name, and `python3 -m nibtoggle`."""
+from __future__ import annotations
+
+import os
+import subprocess
+import sys
+import tempfile
+import unittest
+import warnings
+from pathlib import Path
+from typing import Dict, List, Tuple
+from unittest import mock
+
+ROOT = Path(__file__).resolve().parent.parent.parent
+sys.path.insert(0, str(ROOT / "python"))
+
+import nibtoggle  # noqa: E402
+from nibtoggle import Bench, FolderError, Refused, crc, parameter_page  # noqa: E402
+from nibtoggle.parts import PARTS, page_of  # noqa: E402
+
+NIBS = ROOT / "crates" / "test_nib" / "data"
+MAKERS = (ROOT / "crates" / "pages" / "data" / "makers").read_bytes()
+
+
+def files(folder: Path) -> Dict[str, bytes]:
+    """Every file of a folder."""
+    return {path.name: path.read_bytes() for path in sorted(folder.iterdir())}
+
+
+class Tried(unittest.TestCase):
+    def setUp(self) -> None:
+        folder = tempfile.TemporaryDirectory()
+        self.addCleanup(folder.cleanup)
+        self.folder = Path(folder.name)
+
+    def call(self, *words: str, given: bytes = b"", cwd: object = None) -> Tuple[int, bytes, str]:
+        environment = dict(os.environ, PYTHONPATH=str(ROOT / "python"), PYTHONDONTWRITEBYTECODE="1")
+        done = subprocess.run([sys.executable, "-m", "nibtoggle", *words], input=given, env=environment, cwd=self.folder,
+                              stdout=subprocess.PIPE, stderr=subprocess.PIPE)
+        return done.returncode, done.stdout, done.stderr.decode()
+
+
+class Folders(Tried):
+    def test_new_open_save(self) -> None:
+        path = self.folder / "t1"
+        with Bench.new(path) as bench:
+            self.assertEqual(sorted(files(path)), ["array", "counts", "flags", "id", "page"])
+            self.assertEqual(files(path)["array"], b"\xFF" * 33792)
+            bench.reset()
+            bench.program(1, 5, 3, b"preset")
+            self.assertEqual(files(path)["array"], b"\xFF" * 33792)            # until it is saved
+        held = files(path)
+        self.assertEqual(sorted(held), ["array", "counts", "flags", "id", "page", "registers"])
+        self.assertEqual(held["array"], b"\xFF" * 29040 + b"preset" + b"\xFF" * (33792 - 29046))
+        self.assertEqual((held["page"], held["id"], sum(held["counts"])), (parameter_page(), b"\x68", 1))
+        self.assertEqual(held["registers"][528:534], b"preset")
+        with Bench.open(path) as bench:
+            bench.reset()
+            self.assertEqual(bench.read_page(1, 5, 3, count=7), b"preset\xFF")
+            bench.flags[3] = 1
+        self.assertEqual(files(path)["flags"], bytes([0, 0, 0, 1] + [0] * 12))
+        with self.assertRaises(FileExistsError):
+            Bench.new(path)
+        self.assertEqual(files(path)["array"], held["array"])
+
+    def test_an_exception_saves_nothing(self) -> None:
+        path = self.folder / "t1"
+        Bench.new(path).close()
+        before = files(path)
+        with self.assertRaises(Refused):
+            with Bench.open(path) as bench:
+                bench.reset()
+                bench.program(0, 0, 0, b"lost")
+                bench.command(0x10)
+        self.assertEqual(files(path), before)
+        bench = Bench.open(path)
+        bench.reset()
+        bench.program(0, 0, 0, b"lost")
+        bench.close()                                                         # close saves nothing by itself
+        self.assertEqual(files(path), before)
+        with self.assertRaises(ValueError):
+            Bench.t1().save()
+
+    def test_whole_or_not_at_all(self) -> None:
+        path = self.folder / "t1"
+        Bench.new(path).close()
+        before = files(path)
+        real = os.fsync
+        for broken in range(3):
+            calls = []
+
+            def fsync(fd: int) -> None:
+                calls.append(fd)
+                if len(calls) == broken + 1:
+                    raise OSError(28, "No space left on device")
+                real(fd)
+
+            bench = Bench.open(path)
+            bench.reset()
+            bench.program(0, 0, 0, b"lost")
+            with mock.patch("os.fsync", fsync), self.assertRaises(OSError):
+                bench.save()
+            bench.close()
+            self.assertEqual(files(path), before)
+        calls = []
+
+        def fsync_new(fd: int) -> None:
+            calls.append(fd)
+            if len(calls) == 3:
+                raise OSError(28, "No space left on device")
+            real(fd)
+
+        with mock.patch("os.fsync", fsync_new), self.assertRaises(OSError):
+            Bench.new(self.folder / "other")
+        self.assertFalse((self.folder / "other").exists())
+
+    def test_what_is_wrong_is_named(self) -> None:
+        path = self.folder / "t1"
+        for name, wrong in (("array", b"\xFF" * 33791), ("counts", bytes(65)), ("flags", b""), ("id", b"ab"), ("page", b"ONFI")):
+            Bench.new(path).close()
+            (path / name).write_bytes(wrong)
+            with self.assertRaisesRegex(FolderError, "%s: has %d bytes, and should have" % (path / name, len(wrong))):
+                Bench.open(path)
+            for file in path.iterdir():
+                file.unlink()
+            path.rmdir()
+        with self.assertRaises(FileNotFoundError):
+            Bench.open(self.folder / "none")
+        for page in (parameter_page(pages=300), b"ONFI", parameter_page()[:255] + b"\0"):
+            with self.assertRaises(Refused):
+                Bench.new(path, page)
+            self.assertFalse(path.exists())
+        with self.assertRaises(ValueError):
+            Bench.new(path, "MT29F000")
+        with self.assertRaises(ValueError):
+            Bench.new(path, "T1", 256)
+        with self.assertRaises(ValueError):
+            Bench.new(path, flags=bytes([2] + [0] * 15))
+        self.assertFalse(path.exists())
+
+    def test_parts_by_name(self) -> None:
+        pages = [MAKERS[512 * i:512 * i + 256] for i in range(6)]
+        self.assertEqual([known.page for known in list(PARTS.values())[2:]], pages)        # with the CRCs that the maker printed
+        with Bench.new(self.folder / "t2", "T2") as bench:
+            self.assertEqual((bench.part.pages, bench.part.blocks, bench.device_id), (3, 5, 0x68))
+        path = self.folder / "large"
+        with warnings.catch_warnings(record=True) as said:
+            warnings.simplefilter("always")
+            bench = Bench.new(path, "MT29F256G08AUAAAC5")
+        self.assertIn(str(path / "array"), str(said[0].message))
+        with bench:
+            self.assertEqual(bench.part.array_length, 9_059_696_640)
+            bench.reset()
+            self.assertEqual(bench.read_id(), b"\x2C\x88")
+            bench.erase(1, 4095)
+            bench.program(1, 4095, 127, b"far")
+        self.assertLess((path / "array").stat().st_blocks * 512, 8 << 20)                   # as sparse as before
+        with Bench.open(path) as bench:
+            bench.reset()
+            self.assertEqual(bench.read_page(1, 4095, 127, count=4), b"far\xFF")
+
+    def test_a_page_of_three_copies(self) -> None:
+        good, damaged = MAKERS[:256], MAKERS[256:512]
+        for answer, taken in ((good * 3, good), (damaged + good * 2, good), (damaged * 2 + good, good), (damaged * 3, damaged),
+                              (good, good), (good[:255], good[:255])):
+            self.assertEqual(page_of(answer), taken)
+        small = parameter_page()
+        with Bench.new(self.folder / "t1", bytes(256) + small * 2) as bench:
+            self.assertEqual(bytes(bench.page), small)
+
+
+class Commands(Tried):
+    """`python3 -m nibtoggle`, with its exit statuses."""
+
+    def test_new_run_explain_text_dump_diff(self) -> None:
+        script = b"c ff\nc 80  a 00 00 37 00 00  d 3c a5\nc 10  f 1   # save\nc 00  a 00 00 37 00 00  c 30  f 1  o 3\n"
+        self.assertEqual(self.call("new", "t1")[:2], (0, b"t1: page 256 bytes, id 1, array 33792, counts 64, flags 16\n"))
+        status, trace, _ = self.call("text", given=script)
+        self.assertEqual((status, trace), (0, bytes.fromhex(
+            "00FF 0080 0100 0100 0137 0100 0100 023C 02A5 0010 0401 0000 0100 0100 0137 0100 0100 0030 0401 0300 0300 0300")))
+        before = files(self.folder / "t1")
+        status, said, _ = self.call("explain", "t1", given=trace)
+        self.assertEqual(status, 0)
+        lines = said.decode().splitlines()
+        self.assertEqual(lines[0], "power-on accepted")
+        self.assertEqual(lines[1], "     1  command FFh  reset                  accepted")
+        self.assertEqual(lines[-2], "    21  data out                            byte A5h")
+        self.assertEqual(files(self.folder / "t1"), before)
+        status, replies, _ = self.call("run", "t1", given=trace)
+        self.assertEqual((status, replies), (0, bytes(38) + bytes.fromhex("013C 01A5 01FF")))
+        self.assertEqual(files(self.folder / "t1")["array"][29040:29043], b"\x3C\xA5\xFF")
+        status, said, _ = self.call("dump", "t1", "1", "5", "3")
+        self.assertEqual(status, 0)
+        self.assertIn(b"LUN 1, block 5, page 3: programmed 1 times", said)
+        self.assertIn(b"0000  3C A5 FF", said)
+        self.call("new", "other")
+        status, said, _ = self.call("diff", "t1", "other")
+        self.assertEqual(status, 3)
+        self.assertIn(b"LUN 1, block 5, page 3: 2 bytes differ, the first at column 0: 3Ch and FFh", said)
+        self.assertIn(b"LUN 1, block 5, page 3: programmed 1 times and 0", said)
+        self.assertEqual(self.call("diff", "other", "other")[:2], (0, b""))
+        self.assertEqual(self.call("text", "-d", given=trace)[0], 0)
+
+    def test_wrong_calls_are_2(self) -> None:
+        for words in ([], ["nonsense"], ["new"], ["new", "a", "b", "c"], ["run"], ["dump", "t1"], ["new", "-x"], ["text", "-e"],
+                      ["page"], ["diff", "a"]):
+            status, said, told = self.call(*words)
+            self.assertEqual((status, said), (2, b""), words)
+            self.assertIn("nibtoggle: no such call; these are:", told)
+        self.assertEqual(self.call("dump", "t1", "x", "0", "0")[0], 1)                      # there is no t1
+        for words in (["help"], ["--help"], ["-h"], ["new", "--help"], ["run", "-h"]):
+            status, said, _ = self.call(*words)
+            self.assertEqual(status, 0)
+            self.assertIn(b"nibtoggle explain DIR < TRACE", said)
+        self.assertEqual(list(self.folder.iterdir()), [])                                   # and nothing is made
+
+    def test_errors_are_1_and_one_line(self) -> None:
+        (self.folder / "short").write_bytes(b"ONFI")
+        (self.folder / "wide").write_bytes(parameter_page(pages=300))
+        self.call("new", "t1")
+        for words, told in ((["run", "none"], "none/page: No such file or directory"), (["new", "t1"], "File exists"),
+                            (["new", "x", "short"], "short: power-on refused 20"), (["page", "short"], "has 4 bytes"),
+                            (["new", "x", "wide"], "wide: power-on refused 23"), (["new", "x", "wide"], "pages a block: 300, and 1 to 256"),
+                            (["dump", "t1", "2", "0", "0"], "LUN is 0 to 1, and 2 was given"), (["new", "x", "none"], "none: No such file")):
+            status, said, error = self.call(*words)
+            self.assertEqual((status, said, error.count("\n")), (1, b"", 1), error)
+            self.assertTrue(error.startswith("nibtoggle: "), error)
+            self.assertIn(told, error)
+        self.assertFalse((self.folder / "x").exists())
+
+    def test_a_bad_text_gives_no_trace(self) -> None:
+        for given, told in ((b"c ff\nc zz\n", "line 2, place 3: 'zz': not two hex digits"), (b"c 80 f", "line 1, place 6: 'f': a letter with no value"),
+                            (b"c f\n", "line 1, place 3: 'f': a letter, where the one before it wants a value"), (b"80", "no letter of")):
+            status, said, error = self.call("text", given=given)
+            self.assertEqual((status, said), (1, b""))
+            self.assertIn(told, error)
+
+    def test_text_both_ways_as_nib_has_it(self) -> None:
+        many, text = (NIBS / "many").read_bytes(), (NIBS / "many_text").read_bytes()
+        self.assertEqual(nibtoggle.text_of(many).encode(), text)
+        self.assertEqual(nibtoggle.records_of(text), many)
+        self.assertEqual(nibtoggle.records_of((NIBS / "script").read_bytes()), (NIBS / "trace").read_bytes())
+
+    def test_a_disk_that_is_full(self) -> None:
+        self.call("new", "t1")
+        before = files(self.folder / "t1")
+        with open("/dev/full", "wb") as full:
+            environment = dict(os.environ, PYTHONPATH=str(ROOT / "python"), PYTHONDONTWRITEBYTECODE="1")
+            done = subprocess.run([sys.executable, "-m", "nibtoggle", "run", "t1"], input=b"\0\xFF", env=environment, cwd=self.folder,
+                                  stdout=full, stderr=subprocess.PIPE)
+        self.assertEqual(done.returncode, 1, done.stderr)
+        self.assertIn(b"No space left on device", done.stderr)
+        self.assertEqual(files(self.folder / "t1"), before)
+
+    def test_page_and_parts(self) -> None:
+        (self.folder / "page").write_bytes(MAKERS[256:512] + MAKERS[:512])
+        status, said, _ = self.call("page", "page")
+        self.assertEqual(status, 0)
+        self.assertIn(b"power-on           accepted, with an array of 4529848320 bytes", said)
+        status, said, _ = self.call("parts")
+        self.assertEqual([line.split()[0] for line in said.decode().splitlines()], list(PARTS))
+        self.assertEqual(self.call("version")[:2], (0, ("nibtoggle %s, library %s\n" % (2 * (nibtoggle.__version__,))).encode()))
+
+
+if __name__ == "__main__":
+    unittest.main()

@@ -1,0 +1,165 @@
+"""Installed as a user would: tools/install into a fresh prefix, `pip install` into a fresh venv, with Debian's packages alone."""
+from __future__ import annotations
+
+import os
+import platform
+import re
+import shutil
+import subprocess
+import sys
+import tempfile
+import unittest
+from pathlib import Path
+from typing import List
+
+ROOT = Path(__file__).resolve().parent.parent.parent
+sys.path.insert(0, str(ROOT / "python"))
+VERSION = (ROOT / "VERSION").read_text(encoding="utf-8").strip()
+WHEELS = Path("/usr/share/python-wheels")
+
+
+def done(words: List[str], **options: object) -> "subprocess.CompletedProcess[str]":
+    environment = {name: value for name, value in os.environ.items() if name not in ("PYTHONPATH", "NIBTOGGLE_LIBRARY")}
+    environment.update(options.pop("env", {}))                                                    # type: ignore[call-overload]
+    return subprocess.run(words, env=environment, stdout=subprocess.PIPE, stderr=subprocess.STDOUT, text=True, **options)  # type: ignore
+
+
+class Versions(unittest.TestCase):
+    def test_one_number_everywhere(self) -> None:
+        said = done([sys.executable, str(ROOT / "tools" / "version"), "--check"])
+        self.assertEqual((said.returncode, said.stdout), (0, ""))
+
+    def test_the_library_has_it_too(self) -> None:
+        import nibtoggle
+        number = nibtoggle.Library.found().version()
+        self.assertEqual("%d.%d.%d" % (number >> 16, number >> 8 & 255, number & 255), VERSION)
+        self.assertEqual(nibtoggle.__version__, VERSION)
+
+
+class Prefix(unittest.TestCase):
+    """tools/install PREFIX."""
+
+    def setUp(self) -> None:
+        folder = tempfile.TemporaryDirectory()
+        self.addCleanup(folder.cleanup)
+        self.prefix = Path(folder.name) / "fresh prefix"
+        said = done([str(ROOT / "tools" / "install"), str(self.prefix)], env={"PYTHON": sys.executable})
+        self.assertEqual(said.returncode, 0, said.stdout)
+        self.packages = Path(re.search("PYTHONPATH=(.*)", said.stdout).group(1))                  # type: ignore[union-attr]
+
+    def test_all_of_it(self) -> None:
+        self.library_by_pkg_config()
+        self.package_and_commands()
+        # a second time over the first
+        self.assertEqual(done([str(ROOT / "tools" / "install"), str(self.prefix)]).returncode, 0)
+
+    def library_by_pkg_config(self) -> None:
+        lib = self.prefix / "lib"
+        soname = done([str(ROOT / "tools" / "soname")]).stdout.strip()
+        self.assertEqual((lib / "libnibtoggle.so").resolve().name, "libnibtoggle.so." + VERSION)
+        self.assertEqual((lib / soname).resolve().name, "libnibtoggle.so." + VERSION)
+        environment = {"PKG_CONFIG_PATH": str(lib / "pkgconfig")}
+        self.assertEqual(done(["pkg-config", "--modversion", "nibtoggle"], env=environment).stdout.strip(), VERSION)
+        program = self.prefix / "program"
+        for extra in ([], ["-static-libgcc", str(lib / "libnibtoggle.a")]):
+            flags = done(["sh", "-c", 'eval "set -- $(pkg-config --cflags --libs nibtoggle)"; printf "%s\\n" "$@"'], env=environment)
+            words = [word for word in flags.stdout.splitlines() if not (extra and word.startswith(("-l", "-L")))]
+            built = done(["cc", "-std=c11", "-Wall", "-Wextra", "-Werror", str(ROOT / "tests" / "c" / "install.c"), "-o", str(program)]
+                         + words + extra)
+            self.assertEqual(built.returncode, 0, built.stdout)
+            ran = done([str(program)], env={"LD_LIBRARY_PATH": str(lib)})
+            self.assertEqual((ran.returncode, ran.stdout), (0, VERSION + ": the LUN is working\n"))
+            asked = done(["sh", "-c", "ldd %s" % program.name], cwd=self.prefix, env={"LD_LIBRARY_PATH": str(lib)}).stdout
+            self.assertEqual(soname in asked, not extra)
+
+    def package_and_commands(self) -> None:
+        said = done([sys.executable, "-c", "import nibtoggle; print(nibtoggle.Library.found().path); nibtoggle.Bench.t1().reset()"],
+                    env={"PYTHONPATH": str(self.packages)}, cwd=self.prefix)
+        self.assertEqual((said.returncode, said.stdout.strip()), (0, str(self.packages / "nibtoggle" / "libnibtoggle.so")))
+        said = done([str(self.prefix / "bin" / "nibtoggle"), "version"], cwd=self.prefix)
+        self.assertEqual((said.returncode, said.stdout), (0, "nibtoggle %s, library %s\n" % (VERSION, VERSION)))
+        if platform.machine() != "x86_64":
+            return
+        for nib in (self.prefix / "bin" / "nib", self.prefix / "linked"):
+            if nib.name == "linked":
+                nib.symlink_to(self.prefix / "bin" / "nib")
+            said = done([str(nib), "version"], cwd=self.prefix)
+            self.assertEqual((said.returncode, said.stdout), (0, "nib %s\n" % VERSION))
+            self.assertEqual(done([str(nib), "no-such-command"], cwd=self.prefix).returncode, 2)
+            self.assertEqual(done([str(nib), "page", "no-such-file"], cwd=self.prefix).returncode, 1)
+
+
+class Venv(unittest.TestCase):
+    """`pip install .`, with no index and no network."""
+
+    def setUp(self) -> None:
+        folder = tempfile.TemporaryDirectory()
+        self.addCleanup(folder.cleanup)
+        self.folder = Path(folder.name)
+        self.source = self.folder / "source"
+        self.source.mkdir()
+        for name in ("pyproject.toml", "setup.py", "VERSION", "README.md"):
+            shutil.copy(ROOT / name, self.source)
+        shutil.copytree(ROOT / "python", self.source / "python", ignore=shutil.ignore_patterns("__pycache__", "*.egg-info"))
+        self.python = self.folder / "venv" / "bin" / "python"
+        # Debian's setuptools and wheel build it; the venv has nothing else of the machine's
+        made = done([sys.executable, "-m", "venv", "--system-site-packages", str(self.folder / "venv")])
+        self.assertEqual(made.returncode, 0, made.stdout)
+
+    def pip(self) -> "subprocess.CompletedProcess[str]":
+        return done([str(self.python), "-m", "pip", "install", "--no-index", "--no-build-isolation", "--no-deps", "--disable-pip-version-check", "."],
+                    cwd=self.source)
+
+    def test_with_and_without_the_library(self) -> None:
+        said = self.pip()
+        self.assertNotEqual(said.returncode, 0)
+        self.assertIn("run tools/build-host first", said.stdout)
+        (self.source / "target" / "host").mkdir(parents=True)
+        shutil.copy(ROOT / "target" / "host" / "libnibtoggle.so", self.source / "target" / "host")
+        said = self.pip()
+        self.assertEqual(said.returncode, 0, said.stdout)
+        shutil.rmtree(self.source)
+        said = done([str(self.python), "-c", "import nibtoggle; b = nibtoggle.Bench.t1(); b.reset(); print(b.read_id().hex()); "
+                     "print(nibtoggle.Library.found().path)"], cwd=self.folder)
+        self.assertEqual(said.returncode, 0, said.stdout)
+        identity, path = said.stdout.splitlines()
+        self.assertEqual(identity, "2c68")
+        self.assertTrue(path.startswith(str(self.folder / "venv")), path)
+        said = done([str(self.folder / "venv" / "bin" / "nibtoggle"), "version"], cwd=self.folder)
+        self.assertEqual((said.returncode, said.stdout), (0, "nibtoggle %s, library %s\n" % (VERSION, VERSION)))
+        said = done([str(self.python), "-m", "pip", "show", "nibtoggle"])
+        self.assertIn("Version: " + VERSION, said.stdout)
+
+
+class Typed(unittest.TestCase):
+    def test_mypy_strict(self) -> None:
+        mypy = shutil.which("mypy")
+        if mypy is None:
+            self.skipTest("no mypy here; tools/test-host takes Debian's")
+        with tempfile.TemporaryDirectory() as cache:
+            said = done([mypy, "--strict", "--cache-dir", cache, "nibtoggle"], cwd=ROOT / "python")
+        self.assertEqual(said.returncode, 0, said.stdout)
+
+
+class Header(unittest.TestCase):
+    def test_it_names_no_function_that_does_not_exist(self) -> None:
+        text = (ROOT / "include" / "nibtoggle.h").read_text(encoding="utf-8")
+        code = re.sub(r"/\*.*?\*/", " ", text, flags=re.S)
+        there = set(re.findall(r"\b(nib_\w+)\s*[({;]", code)) | set(re.findall(r"\b(?:struct|enum) (nib_\w+)", code)) \
+            | set(re.findall(r"}\s*(nib_\w+);", code))
+        named = set(re.findall(r"\bnib_\w+", " ".join(re.findall(r"/\*.*?\*/", text, flags=re.S)))) - {"nib_text_", "nib_say_"}
+        self.assertEqual(sorted(named - there), [])
+        self.assertGreater(len(named), 10)
+
+    def test_its_words_are_the_library_s(self) -> None:
+        said = done([sys.executable, str(ROOT / "tools" / "words.py"), "--check"])
+        self.assertEqual((said.returncode, said.stdout), (0, ""))
+        import nibtoggle
+        text = (ROOT / "include" / "nibtoggle.h").read_text(encoding="utf-8")
+        cases = {int(n): words for n, words in re.findall(r'case (\d+): return "(.*)";', text)}
+        self.assertEqual(cases, dict(nibtoggle.RULES))
+        self.assertEqual(sorted(cases), sorted(int(n) for n in re.findall(r"NIB_REFUSED_\w+ = (\d+)", text)))
+
+
+if __name__ == "__main__":
+    unittest.main()

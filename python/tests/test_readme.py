@@ -1,0 +1,63 @@
+"""The README runs from top to bottom as typed: its boxes of commands in one shell, its boxes of Python in one session."""
+from __future__ import annotations
+
+import doctest
+import os
+import platform
+import re
+import subprocess
+import sys
+import tempfile
+import unittest
+from pathlib import Path
+
+ROOT = Path(__file__).resolve().parent.parent.parent
+sys.path.insert(0, str(ROOT / "python"))
+
+TEXT = (ROOT / "README.md").read_text(encoding="utf-8")
+
+
+def boxes(kind: str) -> "list[str]":
+    return re.findall(r"^```%s\n(.*?)^```$" % kind, TEXT, re.M | re.S)
+
+
+class Readme(unittest.TestCase):
+    @unittest.skipUnless(platform.machine() == "x86_64", "nib is a program for x86-64")
+    def test_its_commands(self) -> None:
+        self.assertGreater(len(boxes("sh")), 3)
+        with tempfile.TemporaryDirectory() as folder:
+            script = Path(folder) / "readme.sh"
+            script.write_text("set -eu\n" + "\n".join(boxes("sh")), encoding="utf-8")
+            environment = dict(os.environ, TMPDIR=folder)
+            environment.pop("PYTHONPATH", None)
+            done = subprocess.run(["sh", str(script)], cwd=ROOT, env=environment, stdout=subprocess.PIPE, stderr=subprocess.STDOUT, text=True)
+            self.assertEqual(done.returncode, 0, done.stdout)
+            # what explain writes is what the README prints
+            printed = re.search(r"^    power-on accepted\n(?:    .*\n)+", TEXT, re.M)
+            assert printed is not None
+            self.assertIn("".join(line[4:] + "\n" for line in printed.group(0).splitlines()), done.stdout)
+            self.assertIn("LUN 1, block 5, page 3: programmed 1 times", done.stdout)
+
+    def test_its_python(self) -> None:
+        session = doctest.DocTestParser().get_doctest("\n".join(boxes("python")), {}, "README.md", "README.md", 0)
+        self.assertGreater(len(session.examples), 8)
+        said: "list[str]" = []
+        flags = doctest.ELLIPSIS
+        failed = doctest.DocTestRunner(verbose=False, optionflags=flags).run(session, out=said.append).failed
+        self.assertEqual((failed, "".join(said)), (0, ""))
+
+    def test_the_demo_s_lines_are_the_demo_s(self) -> None:
+        demo = (ROOT / "crates" / "nib" / "stdout").read_text(encoding="utf-8")
+        excerpt = TEXT[TEXT.index("An excerpt"):TEXT.index("An error is one line on standard error")]
+        lines = [line[4:] for line in excerpt.splitlines() if line.startswith("    ") and line.strip() != ".."]
+        self.assertGreater(len(lines), 10)
+        for line in lines:
+            self.assertIn(line + "\n", demo)
+
+    def test_it_says_that_no_licence_is_granted(self) -> None:
+        self.assertIn("The owner has granted no licence yet.", TEXT)
+        self.assertFalse(list(ROOT.glob("LICEN*")))
+
+
+if __name__ == "__main__":
+    unittest.main()
