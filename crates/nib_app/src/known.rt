@@ -1,7 +1,7 @@
 // The parts that have a name, and the version.
-use nib_args::is_word;
 use libc::STDERR_FILENO;
 use libc::STDOUT_FILENO;
+use nib_args::is_word;
 use nib_print::pen::Paper;
 use nib_print::pen::Pen;
 use nib_print::pen::begin;

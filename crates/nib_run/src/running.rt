@@ -1,6 +1,6 @@
 // A trace as it comes, byte by byte: its replies as they are, or in words.
-use nib_args::May;
 use libc::STDOUT_FILENO;
+use nib_args::May;
 use nib_files::part::Array;
 use nib_files::part::Counts;
 use nib_files::part::Flags;

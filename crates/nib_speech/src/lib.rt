@@ -2,7 +2,6 @@
 // writes them a second time. What is read or written so far is a number, which is 0 where a text or a trace begins.
 pub mod states;
 
-use slices::copy_part;
 use nib_print::pen::Paper;
 use nib_print::pen::Pen;
 use nib_print::pen::begin;
@@ -15,13 +14,6 @@ use nib_print::say::event;
 use nib_print::say::reply;
 use nib_print::say::rule;
 use nib_print::say::with_number;
-use states::reading_number;
-use states::reading_of;
-use states::said_number;
-use states::set_bit;
-use states::writing_number;
-use states::writing_of;
-use states::wrong_of;
 use nib_text::Kind;
 use nib_text::reading::Wrong;
 use nib_text::reading::is_gap;
@@ -31,6 +23,14 @@ use nib_text::writing::Value;
 use nib_text::writing::wrote_end;
 use nib_text::writing::wrote_next;
 use nib_text::writing::wrote_odd;
+use slices::copy_part;
+use states::reading_number;
+use states::reading_of;
+use states::said_number;
+use states::set_bit;
+use states::writing_number;
+use states::writing_of;
+use states::wrong_of;
 ghost use mathlib.Core.Path.{_≡_};
 ghost use Prim.Native.Nat.{_≤_};
 ghost use lib.ListN.{length};

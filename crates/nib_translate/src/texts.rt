@@ -1,6 +1,8 @@
 // A trace from text, and back as text.
 use libc::STDERR_FILENO;
 use libc::STDOUT_FILENO;
+use nib_files::files::complain;
+use nib_files::files::one_more;
 use nib_print::input::left;
 use nib_print::input::printable;
 use nib_print::pen::Paper;
@@ -12,8 +14,6 @@ use nib_print::pen::flush;
 use nib_print::pen::put;
 use nib_print::pen::text;
 use nib_print::say::with_number;
-use nib_files::files::complain;
-use nib_files::files::one_more;
 use nib_speech::piece_written;
 use nib_speech::reason;
 use nib_text::reading::Reading;
