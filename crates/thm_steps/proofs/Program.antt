@@ -133,8 +133,7 @@ module _ (t : Target) (params : List ℕ) (b : Buffers) (flags : List ℕ) where
         ap (λ (o : Outcome). o .target .luns) (left-at t (command 0x10) params b flags (filling r c) s h)
         ∙ ap (marked r) (neither (blockBad (t .geometry) r flags) (pageFull (t .geometry) r (b .counts)) good room);
     stays = λ r c s h bad.
-        let p = left-at t (command 0x10) params b flags (filling r c) s h in
-        (
+        let p = left-at t (command 0x10) params b flags (filling r c) s h in (
           ap (λ (o : Outcome). o .buffers) p ∙ ap (λ (x : Bool). either (work.Program r) (not x)) bad,
           ap (λ (o : Outcome). o .target .luns) p ∙ ap (marked r) bad,
         );
@@ -148,14 +147,12 @@ module _ (t : Target) (params : List ℕ) (b : Buffers) (flags : List ℕ) where
   erase = record {
     only-here = λ h. place-d0 (t .decoder .sequence) (command-fits t params b flags 0xd0 refl h);
     erases = λ c r s h good.
-        let p = left-at t (command 0xd0) params b flags (due first.Erase c r) s h in
-        (
+        let p = left-at t (command 0xd0) params b flags (due first.Erase c r) s h in (
           ap (λ (o : Outcome). o .buffers) p ∙ ap (λ (x : Bool). either (work.Erase r) (not x)) good,
           ap (λ (o : Outcome). o .target .luns) p ∙ ap (marked r) good,
         );
     stays = λ c r s h bad.
-        let p = left-at t (command 0xd0) params b flags (due first.Erase c r) s h in
-        (
+        let p = left-at t (command 0xd0) params b flags (due first.Erase c r) s h in (
           ap (λ (o : Outcome). o .buffers) p ∙ ap (λ (x : Bool). either (work.Erase r) (not x)) bad,
           ap (λ (o : Outcome). o .target .luns) p ∙ ap (marked r) bad,
         );

@@ -238,10 +238,10 @@ module _ (t : Target) (params : List ℕ) (b : Buffers) (flags : List ℕ) where
     pub erases : (c : Column) (r : Row) → At (due first.Erase c r) → Taken (command 0xd0) → blockBad (t .geometry) r flags ≡ false
         → (after (command 0xd0) .buffers ≡ record {
           array = splice (b .array) (blockIndex (t .geometry) r * t .geometry .pages * size) (t .geometry .pages * size)
-          (replicate (t .geometry .pages * size) 0xff);
+              (replicate (t .geometry .pages * size) 0xff);
           registers = b .registers;
           counts = splice (b .counts) (blockIndex (t .geometry) r * t .geometry .pages) (t .geometry .pages)
-          (replicate (t .geometry .pages) 0);
+              (replicate (t .geometry .pages) 0);
         })
         × (after (command 0xd0) .target .luns ≡ set (t .luns) (lun r) (working false))
     -- "A factory bad block stays and gives FAIL"
