@@ -9,10 +9,10 @@ use crate::pen::text;
 use power::PowerRefusal;
 use target::Event;
 use target::Output;
-use target::Sequence;
 use target::Target;
 use target::address::lun_of;
-use target::address::row_from;
+use target::views::Given;
+use target::views::completed;
 
 // What a command byte asks for.
 pub fn command_name(out: &mut Paper, p: Pen, v: u8) -> Pen {
@@ -108,33 +108,14 @@ fn sequence_lun(t: Target, v: u8) -> usize {
     let d = t.decoder;
     let s = d.sequence;
     let g = t.geometry;
-    match s {
-        Sequence::Idle => t.selected,
-        Sequence::Columns {
-            first: _,
-            got: _,
-            low: _,
-        } => t.selected,
-        Sequence::Rows {
-            first: _,
-            column: _,
-            got: _,
-            low,
-            mid,
-        } => lun_of(g, row_from(low, mid, v)),
-        Sequence::Single { first: _ } => t.selected,
-        Sequence::Due {
-            first: _,
-            column: _,
-            row: _,
-        } => t.selected,
-        Sequence::Filling { row: _, at: _ } => t.selected,
-        Sequence::Moving {
-            row: _,
-            got: _,
-            low: _,
-        } => t.selected,
-        Sequence::Setting { got: _, value: _ } => t.selected,
+    match completed(s, v) {
+        Given::Nothing => t.selected,
+        Given::Column(_) => t.selected,
+        Given::Row(k) => {
+            let row = k.row;
+            lun_of(g, row)
+        }
+        Given::Single(_) => t.selected,
     }
 }
 

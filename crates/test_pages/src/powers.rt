@@ -10,7 +10,12 @@ use power::power_answer;
 use power::power_number;
 use power::power_on;
 use target::Target;
+use target::bits::has_feature;
+use target::bits::has_option;
 use target::picks::pick_byte;
+use target::records::failed;
+use target::records::works;
+use target::sizes::page_size;
 use test_kit::numbers::count;
 use test_kit::numbers::set;
 use test_kit::numbers::wide;
@@ -32,12 +37,12 @@ fn digested(label: &[u8], s: &[u8]) {
 
 fn show_lun(t: Target, l: usize) {
     let luns = t.luns;
-    flagged(b" ", target::place::works(luns, l));
+    flagged(b" ", works(luns, l));
 }
 
 fn show_fail(t: Target, l: usize) {
     let luns = t.luns;
-    flagged(b" ", target::place::failed(luns, l));
+    flagged(b" ", failed(luns, l));
 }
 
 // Whether each LUN works, and its FAIL.
@@ -56,7 +61,7 @@ fn show_luns(t: Target) {
 
 fn show_sizes(t: Target) {
     let g = t.geometry;
-    labelled(b" sizes ", g.page);
+    labelled(b" sizes ", page_size(g));
     labelled(b" ", g.pages);
     labelled(b" ", g.blocks);
     labelled(b" ", g.luns);
@@ -65,11 +70,12 @@ fn show_sizes(t: Target) {
 
 fn show_target(t: Target) {
     show_sizes(t);
-    let o = t.options;
-    flagged(b" options ", o.look);
-    flagged(b" ", o.fetch);
-    flagged(b" ", o.features);
-    flagged(b" ", o.clear);
+    // 78h, 06h, EEh and EFh, and program-clear
+    let w = t.words;
+    flagged(b" options ", has_option(w, 3));
+    flagged(b" ", has_option(w, 6));
+    flagged(b" ", has_option(w, 2));
+    flagged(b" ", has_feature(w, 8));
     let ids = t.ids;
     small(b" ids ", ids.maker);
     small(b" ", ids.device);

@@ -100,11 +100,15 @@ odd-there params flags n s x h = ap (λ (y : Bool). pick y (oneReply params flag
 pub odd-byte : OddByte
 unfolding standsUsable
 odd-byte t records room params b flags s at there odd =
-    let stands = letsPass (s .target) params (s .buffers) flags in
-    (pick stands BadRecord NotUsable, (number-pick stands,
-    room-there t records room params b flags there
-    ∙ ap (λ (x : Running). traced answer.Done (oddAnswered params flags (length records) x)) (sym at)
-    ∙ ap (traced answer.Done) (odd-there params flags (length records) s true odd)))
+    let stands = letsPass (s .target) params (s .buffers) flags in (
+      pick stands BadRecord NotUsable,
+      (
+        number-pick stands,
+        room-there t records room params b flags there
+            ∙ ap (λ (x : Running). traced answer.Done (oddAnswered params flags (length records) x)) (sym at)
+            ∙ ap (traced answer.Done) (odd-there params flags (length records) s true odd),
+      ),
+    )
 
 pub no-odd-byte : NoOddByte
 no-odd-byte t records room params b flags there even =

@@ -37,13 +37,13 @@ PowerExact =
     (page : List ℕ) (device : ℕ) (array registers counts flags : List ℕ)
     → powerNumber (powerOf page device array registers counts flags .answer)
     ≡ firstNumber (
-      numbered 20 (wrongLength page)
-      ∷ numbered 21 (unsigned page)
-      ∷ numbered 22 (crcBad page)
-      ∷ numbered 23 (fieldBad page)
-      ∷ numbered 24 (bufferBad page (length array) (length registers) (length counts) (length flags))
-      ∷ numbered 25 (contentBad page counts flags)
-      ∷ [])
+    numbered 20 (wrongLength page)
+    ∷ numbered 21 (unsigned page)
+    ∷ numbered 22 (crcBad page)
+    ∷ numbered 23 (fieldBad page)
+    ∷ numbered 24 (bufferBad page (length array) (length registers) (length counts) (length flags))
+    ∷ numbered 25 (contentBad page counts flags)
+    ∷ [])
 
 -- 16: "reply room of a trace or batch too short": two bytes a record, and two for an odd byte
 abbrev pub TraceRoom : Type 0

@@ -1,4 +1,6 @@
 pub mod Taken
+pub mod Places
+pub mod First
 pub mod Reset
 pub mod Read
 pub mod Program

@@ -1,12 +1,18 @@
 -- "Program" and "Erase", as specs/Steps.antt states them.
 -- Assumes nothing.
-use mathlib.Core.Path.{_≡_, refl, sym, ap, _∙_}
+use mathlib.Core.Path.{_≡_, refl, sym, ap, subst, _∙_}
 use mathlib.Core.Bool.{Bool, true, false, _&&_, _||_, not}
 use mathlib.Core.List.{List}
-use Prim.Native.Nat.{ℕ}
-use lib.ListN.{length, set}
+use Prim.Native.Nat.{ℕ, _+_, _*_, _≤_, _<_}
+use lib.ListN.{length, set, getD, drop}
+use lib.Seq.{getD-take, getD-drop}
+use lib.Bits.{bitAnd}
 use lib.Dec.{eqb}
+use Rattle.slices.specs.Cells.{part, splice, andBytes}
+use Rattle.slices.proofs.Splice.{length-part, part-splice}
+use Rattle.slices.proofs.Anded.{length-and, getD-and}
 use Rattle.target.specs.Pick.{pick, orElse}
+use Rattle.target.specs.Sizes.{pageSize}
 use Rattle.target.specs.Address.{rowFrom, lunOf}
 use Rattle.target.specs.Commands.{rowOf, firstOf, secondOf, secondRow, classOf, offered}
 use Rattle.target.specs.declared.Column.{Column}
@@ -23,10 +29,37 @@ use Rattle.target.specs.declared.Verdict.the-variants as verdicts
 use Rattle.rules.specs.Rules.{verdict, beforeReset, unknown, misplaced, fits, othersBusy, lineLow}
 use Rattle.rules.proofs.ByKind.{command-verdict}
 use Rattle.effects.specs.Effects.{workOf, targetAfter, lunsAfter, sequenceAfter}
-use Rattle.step.specs.Buffers.{blockBad, pageFull, findings, registersAfter, arrayAfter, countsAfter}
+use Rattle.step.specs.Usable.{sequenceSound}
+use Rattle.step.proofs.Sound.{sound, passes, filling-row}
+use Rattle.step.proofs.Places.{page-bytes-end, register-end}
+use Rattle.step.specs.Buffers.{pageIndex, blockBad, pageFull, findings, registersAfter, arrayAfter, countsAfter}
 use Rattle.step.specs.Step.{Buffers, Outcome, replyOf, worked, acceptedBy, accepted, stepOf}
-use Rattle.thm_steps.specs.Steps.{command, address, dataIn, due, lastRow, filling, working, Program, Erase, Live}
-use Rattle.thm_steps.proofs.Taken.{put, seen-at, accepts, left-at, left-first}
+use Rattle.thm_steps.specs.Steps.{command, address, dataIn, due, lastRow, filling, working, Taken, Program, Erase, Live}
+use Rattle.thm_steps.proofs.Places.{place-10, place-d0}
+use Rattle.thm_steps.proofs.Taken.{taken, command-fits, put, seen-at, accepts, left-at, left-first}
+
+-- a byte of a part
+part-byte : (xs : List ℕ) (at k i : ℕ) → i < k → getD (part xs at k) i 0 ≡ getD xs (at + i) 0
+unfolding part
+part-byte xs at k i h = getD-take k (drop at xs) i 0 h ∙ getD-drop at xs i 0
+
+part-length : (xs : List ℕ) (at k : ℕ) → at + k ≤ length xs → length (part xs at k) ≡ k
+unfolding part
+part-length xs at k h = length-part xs at k h
+
+-- a byte of a part that is ANDed into its list
+anded-byte : (xs ys : List ℕ) (at from k i : ℕ) → at + k ≤ length xs → from + k ≤ length ys → i < k
+    → getD (splice xs at k (andBytes (part xs at k) (part ys from k))) (at + i) 0 ≡ bitAnd (getD xs (at + i) 0) (getD ys (from + i) 0)
+anded-byte xs ys at from k i fits fitsʳ low =
+    let new = andBytes (part xs at k) (part ys from k) in
+    let long : length new ≡ k = length-and (part xs at k) (part ys from k) ∙ part-length xs at k fits in
+    let here : i < length (part xs at k) = subst (λ (n : ℕ). i < n) (sym (part-length xs at k fits)) low in
+    let there : i < length (part ys from k) = subst (λ (n : ℕ). i < n) (sym (part-length ys from k fitsʳ)) low in
+    sym (part-byte (splice xs at k new) at k i low)
+    ∙ ap (λ (l : List ℕ). getD l i 0) (part-splice xs at k new fits long)
+    ∙ getD-and (part xs at k) (part ys from k) i here there
+    ∙ ap (λ (n : ℕ). bitAnd n (getD (part ys from k) i 0)) (part-byte xs at k i low)
+    ∙ ap (λ (n : ℕ). bitAnd (getD xs (at + i) 0) n) (part-byte ys from k i low)
 
 -- the verdict on 10h where data may come, with the line high
 fits-10 : (t : Target) (r : Row) (c : Column) → t .high ≡ true → verdict (put t true (filling r c) (t .decoder .output)) (command 0x10) ≡ verdicts.Accepted
@@ -45,9 +78,30 @@ module _ (t : Target) (params : List ℕ) (b : Buffers) (flags : List ℕ) where
   abbrev marked : Row → Bool → List Lun
   marked r x = set (t .luns) (lunOf (t .geometry) r) (working (not (not x)))
 
+  -- an event that is accepted finds a sound place
+  sound-at : (e : Event) → Taken t params b flags e → sequenceSound (t .geometry) (t .decoder .sequence) ≡ true
+  sound-at e h = sound t (passes t params (b .array) (b .registers) (b .counts) flags (taken t e params b flags h .0) .record-sound) .sequence
+
+  anded : (r : Row) (c : Column) → t .decoder .sequence ≡ filling r c → Taken t params b flags (command 0x10) → (i : ℕ) → i < pageSize (t .geometry)
+      → getD (splice (b .array) (pageIndex (t .geometry) r * pageSize (t .geometry)) (pageSize (t .geometry)) (andBytes (part (b .array) (pageIndex (t .geometry) r * pageSize (t .geometry)) (pageSize (t .geometry))) (part (b .registers) (lunOf (t .geometry) r * pageSize (t .geometry)) (pageSize (t .geometry))))) (pageIndex (t .geometry) r * pageSize (t .geometry) + i) 0
+      ≡ bitAnd (getD (b .array) (pageIndex (t .geometry) r * pageSize (t .geometry) + i) 0) (getD (b .registers) (lunOf (t .geometry) r * pageSize (t .geometry) + i) 0)
+  anded r c s h i low =
+      let g = t .geometry in
+      let sizes = passes t params (b .array) (b .registers) (b .counts) flags (taken t (command 0x10) params b flags h .0) .sizes in
+      let there = filling-row g (record { row = r; at = c }) (subst (λ (x : Sequence). sequenceSound g x ≡ true) s (sound-at (command 0x10) h)) in
+      anded-byte (b .array) (b .registers) (pageIndex g r * pageSize g) (lunOf g r * pageSize g) (pageSize g) i
+      (subst (λ (n : ℕ). pageIndex g r * pageSize g + pageSize g ≤ n) (sym (sizes .array-size)) (page-bytes-end g r there))
+      (subst (λ (n : ℕ). lunOf g r * pageSize g + pageSize g ≤ n) (sym (sizes .registers-size)) (register-end g r there))
+      low
+
   pub program : Program t params b flags
   unfolding accepted acceptedBy replyOf worked workOf targetAfter lunsAfter sequenceAfter findings registersAfter arrayAfter countsAfter rowOf firstOf secondOf secondRow
   program = record {
+    only-here = λ h. place-10 (t .geometry) (t .decoder .sequence) (sound-at (command 0x10) h) (command-fits t params b flags 0x10 refl h);
+    each-byte = λ r c s h good room i low.
+        ap (λ (o : Outcome). getD (o .buffers .array) (pageIndex (t .geometry) r * pageSize (t .geometry) + i) 0) (left-at t (command 0x10) params b flags (filling r c) s h)
+        ∙ ap (λ (x : Bool). getD (either (work.Program r) (not x) .array) (pageIndex (t .geometry) r * pageSize (t .geometry) + i) 0) (neither (blockBad (t .geometry) r flags) (pageFull (t .geometry) r (b .counts)) good room)
+        ∙ anded r c s h i low;
     clears-all = λ off h.
         ap (λ (o : Outcome). o .buffers) (left-first t params b flags 0x80 refl refl h)
         ∙ ap (λ (x : Bool). either work.ClearAll (not x)) off;
@@ -79,8 +133,7 @@ module _ (t : Target) (params : List ℕ) (b : Buffers) (flags : List ℕ) where
         ap (λ (o : Outcome). o .target .luns) (left-at t (command 0x10) params b flags (filling r c) s h)
         ∙ ap (marked r) (neither (blockBad (t .geometry) r flags) (pageFull (t .geometry) r (b .counts)) good room);
     stays = λ r c s h bad.
-        let p = left-at t (command 0x10) params b flags (filling r c) s h in
-        (
+        let p = left-at t (command 0x10) params b flags (filling r c) s h in (
           ap (λ (o : Outcome). o .buffers) p ∙ ap (λ (x : Bool). either (work.Program r) (not x)) bad,
           ap (λ (o : Outcome). o .target .luns) p ∙ ap (marked r) bad,
         );
@@ -92,15 +145,14 @@ module _ (t : Target) (params : List ℕ) (b : Buffers) (flags : List ℕ) where
   pub erase : Erase t params b flags
   unfolding accepted acceptedBy worked workOf targetAfter lunsAfter findings registersAfter arrayAfter countsAfter rowOf secondOf secondRow
   erase = record {
+    only-here = λ h. place-d0 (t .decoder .sequence) (command-fits t params b flags 0xd0 refl h);
     erases = λ c r s h good.
-        let p = left-at t (command 0xd0) params b flags (due first.Erase c r) s h in
-        (
+        let p = left-at t (command 0xd0) params b flags (due first.Erase c r) s h in (
           ap (λ (o : Outcome). o .buffers) p ∙ ap (λ (x : Bool). either (work.Erase r) (not x)) good,
           ap (λ (o : Outcome). o .target .luns) p ∙ ap (marked r) good,
         );
     stays = λ c r s h bad.
-        let p = left-at t (command 0xd0) params b flags (due first.Erase c r) s h in
-        (
+        let p = left-at t (command 0xd0) params b flags (due first.Erase c r) s h in (
           ap (λ (o : Outcome). o .buffers) p ∙ ap (λ (x : Bool). either (work.Erase r) (not x)) bad,
           ap (λ (o : Outcome). o .target .luns) p ∙ ap (marked r) bad,
         );

@@ -30,7 +30,8 @@ use Rattle.effects.specs.Effects.{workOf, targetAfter, lunsAfter, sequenceAfter
 use Rattle.step.specs.Buffers.{findings, registersAfter, arrayAfter, countsAfter, outputByte}
 use Rattle.step.specs.Step.{Buffers, Outcome, replyOf, worked, acceptedBy, accepted, stepOf}
 use Rattle.thm_steps.specs.Steps.{command, address, dataOut, due, lastRow, Read, Live}
-use Rattle.thm_steps.proofs.Taken.{put, at-place, seen-at, accepts, refuses, left-by, left-at, left-out}
+use Rattle.thm_steps.proofs.Taken.{command-fits, put, at-place, seen-at, accepts, refuses, left-by, left-at, left-out}
+use Rattle.thm_steps.proofs.Places.{place-30}
 use Rattle.thm_steps.proofs.Reset.{reset}
 
 -- the verdict on the last row cycle of 06h on a working LUN
@@ -55,6 +56,7 @@ module _ (t : Target) (params : List ℕ) (b : Buffers) (flags : List ℕ) where
   pub read : Read t params b flags
   unfolding accepted acceptedBy replyOf worked workOf targetAfter lunsAfter sequenceAfter outputAfter selectedAfter findings registersAfter arrayAfter countsAfter outputByte rowOf secondOf secondRow
   read = record {
+    only-here = λ h. place-30 (t .decoder .sequence) (command-fits t params b flags 0x30 refl h);
     copies = λ c r s h. ap (λ (o : Outcome). o .buffers) (left-at t (command 0x30) params b flags (due first.Read c r) s h);
     starts = λ c r s h. ap (λ (o : Outcome). o .target .luns) (left-at t (command 0x30) params b flags (due first.Read c r) s h);
     puts-out = λ c r s h. ap (λ (o : Outcome). o .target .decoder) (left-at t (command 0x30) params b flags (due first.Read c r) s h);

@@ -131,8 +131,7 @@ module _ (t : Target) (params : List ℕ) (b : Buffers) (flags : List ℕ) where
     of-row = λ c low mid v s h. ap (λ (o : Outcome). o .target .decoder) (left-at t (address v) params b flags (lastRow first.StatusEnhanced c low mid) s h);
     gives = λ l s live. ap (λ (o : Outcome). o .reply) (given-out (output.Status l) s live refl refl refl);
     stays = λ l s live.
-        let p = given-out (output.Status l) s live refl refl refl in
-        (
+        let p = given-out (output.Status l) s live refl refl refl in (
           ap (λ (o : Outcome). o .target) p ∙ sym (seen-out t (output.Status l) (live .seen) s),
           ap (λ (o : Outcome). o .buffers) p,
         );

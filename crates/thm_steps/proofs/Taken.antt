@@ -120,13 +120,16 @@ not-true-not true h = refl
 not-true-not false h = absurd (false≢true (sym h))
 
 module _ (t : Target) (params : List ℕ) (b : Buffers) (flags : List ℕ) where
-  command-fits : (v : ℕ) → eqb v 0xff ≡ false → Taken t params b flags (command v) → commandFits (t .decoder .sequence) v ≡ true
+  pub command-fits : (v : ℕ) → eqb v 0xff ≡ false → Taken t params b flags (command v) → commandFits (t .decoder .sequence) v ≡ true
   unfolding misplaced fits
   command-fits v other h =
       let placed = not-true-not (takesCommand (t .decoder .sequence) v) (all-passed t (command v) (taken t (command v) params b flags h .1) .rule-3) in
       subst (λ (x : Bool). (x || commandFits (t .decoder .sequence) v) ≡ true) other placed
 
+  pub idle-before : (v : ℕ) → eqb v 0xff ≡ false → secondOf v ≡ second.Nothing → Taken t params b flags (command v) → t .decoder .sequence ≡ Idle
+  idle-before v other none h = fits-idle (t .decoder .sequence) v none (command-fits v other h)
+
   -- so a first command that is accepted finds no sequence open
   pub left-first : (v : ℕ) → eqb v 0xff ≡ false → secondOf v ≡ second.Nothing → Taken t params b flags (command v)
       → stepOf t (command v) params b flags ≡ accepted (put t (t .seen) Idle (t .decoder .output)) (command v) params b flags
-  left-first v other none h = left-at t (command v) params b flags Idle (fits-idle (t .decoder .sequence) v none (command-fits v other h)) h
+  left-first v other none h = left-at t (command v) params b flags Idle (idle-before v other none h) h

@@ -1,23 +1,27 @@
 -- Document 01's "The steps", paragraph by paragraph and in its order: a record for each paragraph, a field for each sentence, stated
--- over `stepOf`. "Place" is stated by the definitions of crates/target/specs; proofs/ proves the rest.
+-- over `stepOf`. proofs/ proves them.
 use mathlib.Core.Path.{_≡_}
 use mathlib.Core.Bool.{Bool, true, false, _&&_, _||_, not}
 use mathlib.Core.List.{List}
 use Prim.Native.Nat.{ℕ, _+_, _*_, _%_, _<_}
 use lib.ListN.{length, getD, set, replicate}
 use lib.Dec.{eqb}
+use lib.Bits.{bitAnd}
 use Rattle.slices.specs.Cells.{part, splice, andBytes}
 use Rattle.target.specs.Pick.{pick}
 use Rattle.target.specs.Numbers.{numberOf}
 use Rattle.target.specs.Events.{isReset}
 use Rattle.target.specs.Words.{hasFeature}
 use Rattle.target.specs.Sizes.{pageSize}
+use Rattle.target.specs.Commands.{byteOf, cyclesOf}
 use Rattle.target.specs.Address.{columnFrom, rowFrom, lunOf, lunExists}
 use Rattle.target.specs.Luns.{lunAt, works, failed, allReady}
 use Rattle.target.specs.declared.Column.{Column}
 use Rattle.target.specs.declared.Row.{Row}
 use Rattle.target.specs.declared.Lun.{Lun}
 use Rattle.target.specs.declared.Event.{Event}
+use Rattle.target.specs.declared.Wait.{Wait}
+use Rattle.target.specs.declared.Fill.{Fill}
 use Rattle.target.specs.declared.Target.{Target}
 use Rattle.target.specs.declared.First.{First}
 use Rattle.target.specs.declared.First.the-variants as first
@@ -121,8 +125,18 @@ module _ (t : Target) (params : List ℕ) (b : Buffers) (flags : List ℕ) where
   abbrev pub LeavesRegisters : Event → List ℕ → Type 0
   LeavesRegisters e new = after e .buffers ≡ record { array = b .array; registers = new; counts = b .counts }
 
+  -- **Place.** The rest of the paragraph is the definitions of crates/target/specs, Place.antt and Views.antt.
+  pub record Place : Type 0 where
+    -- "A first command is accepted with no sequence open"
+    pub none-open : (f : First) → Taken (command (byteOf f)) → At Idle
+    -- "it ends output"; only 70h, which has no address cycle, puts out at once
+    pub ends-output : (f : First) → eqb (cyclesOf f) 0 ≡ false → Taken (command (byteOf f))
+        → after (command (byteOf f)) .target .decoder .output ≡ output.Nothing
+
   -- **Read.**
   pub record Read : Type 0 where
+    -- 30h is accepted after 00h and its five addresses alone
+    pub only-here : Taken (command 0x30) → (k : Wait) × ((At (Due k)) × (k .first ≡ first.Read))
     -- "30h copies the page into the LUN's register"
     pub copies : (c : Column) (r : Row) → At (due first.Read c r) → Taken (command 0x30)
         → LeavesRegisters (command 0x30) (splice (b .registers) (registerAt (lun r)) size (part (b .array) (pageAt r) size))
@@ -189,6 +203,8 @@ module _ (t : Target) (params : List ℕ) (b : Buffers) (flags : List ℕ) where
         → (after (address v) .target .decoder .sequence ≡ Moving (record { row = r; got = 1; low = v })) × LeavesBuffers (address v)
     pub moves-high : (r : Row) (low v : ℕ) → At (Moving (record { row = r; got = 1; low = low })) → Taken (address v)
         → (after (address v) .target .decoder .sequence ≡ filling r (columnFrom low v)) × LeavesBuffers (address v)
+    -- 10h is accepted where a program takes data alone
+    pub only-here : Taken (command 0x10) → (k : Fill) × At (Filling k)
     -- "10h: each array byte becomes old AND register, the count rises by one"
     pub programs : (r : Row) (c : Column) → At (filling r c) → Taken (command 0x10)
         → blockBad (t .geometry) r flags ≡ false → pageFull (t .geometry) r (b .counts) ≡ false
@@ -197,6 +213,11 @@ module _ (t : Target) (params : List ℕ) (b : Buffers) (flags : List ℕ) where
           registers = b .registers;
           counts = set (b .counts) (pageIndex (t .geometry) r) (getD (b .counts) (pageIndex (t .geometry) r) 0 + 1);
         }
+    pub each-byte : (r : Row) (c : Column) → At (filling r c) → Taken (command 0x10)
+        → blockBad (t .geometry) r flags ≡ false → pageFull (t .geometry) r (b .counts) ≡ false
+        → (i : ℕ) → i < size
+        → getD (after (command 0x10) .buffers .array) (pageAt r + i) 0
+        ≡ bitAnd (getD (b .array) (pageAt r + i) 0) (getD (b .registers) (registerAt (lun r) + i) 0)
     -- "work starts"
     pub starts : (r : Row) (c : Column) → At (filling r c) → Taken (command 0x10)
         → blockBad (t .geometry) r flags ≡ false → pageFull (t .geometry) r (b .counts) ≡ false
@@ -211,14 +232,16 @@ module _ (t : Target) (params : List ℕ) (b : Buffers) (flags : List ℕ) where
 
   -- **Erase.**
   pub record Erase : Type 0 where
+    -- D0h is accepted after 60h and its three addresses alone
+    pub only-here : Taken (command 0xd0) → (k : Wait) × ((At (Due k)) × (k .first ≡ first.Erase))
     -- "D0h sets the block's bytes to FFh and its counts to 0"
     pub erases : (c : Column) (r : Row) → At (due first.Erase c r) → Taken (command 0xd0) → blockBad (t .geometry) r flags ≡ false
         → (after (command 0xd0) .buffers ≡ record {
           array = splice (b .array) (blockIndex (t .geometry) r * t .geometry .pages * size) (t .geometry .pages * size)
-          (replicate (t .geometry .pages * size) 0xff);
+              (replicate (t .geometry .pages * size) 0xff);
           registers = b .registers;
           counts = splice (b .counts) (blockIndex (t .geometry) r * t .geometry .pages) (t .geometry .pages)
-          (replicate (t .geometry .pages) 0);
+              (replicate (t .geometry .pages) 0);
         })
         × (after (command 0xd0) .target .luns ≡ set (t .luns) (lun r) (working false))
     -- "A factory bad block stays and gives FAIL"
