@@ -1,5 +1,5 @@
--- Document 01's "Cases to hold to" (a) to (j), as one table: each a trace on T1 or T2 as power-on makes them, and its replies. Two
--- bytes a record: kind and value, and 00 00 accepted, 01 and the byte, 02 and the refusal number.
+-- Document 01's "Cases to hold to" (a) to (j), as one table: each a trace on T1 or T2 as power-on makes them, and its
+-- replies. Two bytes a record: kind and value, and 00 00 accepted, 01 and the byte, 02 and the refusal number.
 use mathlib.Core.Path.{_≡_}
 use mathlib.Core.Bool.{Bool, true}
 use mathlib.Core.List.{List, [], _∷_, _++_}
@@ -75,10 +75,12 @@ pub record Cases : Type 0 where
   -- T1 array is 33,792 bytes
   pub a : (n : ℕ) → sized (geometry t1) n 1056 64 16 ≡ true → n ≡ 33792
   -- T1 row 55 is LUN 1, block 5, page 3, array place 29,040
-  pub b : (lunOf (geometry t1) (rowAt 55) ≡ 1) × (blockOf (geometry t1) (rowAt 55) ≡ 5) × (pageOf (geometry t1) (rowAt 55) ≡ 3)
+  pub b : (lunOf (geometry t1) (rowAt 55) ≡ 1) × (blockOf (geometry t1) (rowAt 55) ≡ 5)
+      × (pageOf (geometry t1) (rowAt 55) ≡ 3)
       × (pageIndex (geometry t1) (rowAt 55) * pageSize (geometry t1) ≡ 29040)
   -- T2 row 18 is block 4, page 2
-  pub c : (lunOf (geometry t2) (rowAt 18) ≡ 0) × (blockOf (geometry t2) (rowAt 18) ≡ 4) × (pageOf (geometry t2) (rowAt 18) ≡ 2)
+  pub c : (lunOf (geometry t2) (rowAt 18) ≡ 0) × (blockOf (geometry t2) (rowAt 18) ≡ 4)
+      × (pageOf (geometry t2) (rowAt 18) ≡ 2)
   -- T2 row 15, and row 20, refused 4 for 80h
   pub d : told t2 (reset (command 0x80 (column 0 0 (row 15 [])))) ≡ accepted 6 (refused 4 [])
   pub e : told t2 (reset (command 0x80 (column 0 0 (row 20 [])))) ≡ accepted 6 (refused 4 [])

@@ -1,4 +1,5 @@
--- Document 01's parts T1 and T2, from their parameter pages on: power-on makes their records, and a trace is run on them.
+-- Document 01's parts T1 and T2, from their parameter pages on: power-on makes their records, and a trace is run on
+-- them.
 use mathlib.Core.List.{List, [], _∷_, _++_}
 use Prim.Native.Nat.{ℕ}
 use lib.ListN.{length, replicate}
@@ -6,7 +7,8 @@ use Rattle.power.specs.Power.{Powering, powerOf}
 use Rattle.step.specs.Step.{Buffers, State}
 use Rattle.trace.specs.Run.{Traced, traceOf}
 
--- the parameter page of a part of 512+16 bytes with 2 LUNs and 4 programs a page: feature bits 1 and 8, optional bits 2, 3 and 6
+-- the parameter page of a part of 512+16 bytes with 2 LUNs and 4 programs a page: feature bits 1 and 8, optional bits
+-- 2, 3 and 6
 abbrev pub pageWith : ℕ → ℕ → ℕ → ℕ → List ℕ
 pageWith pages blocks crcLow crcHigh =
     0x4f ∷ 0x4e ∷ 0x46 ∷ 0x49 ∷ 0 ∷ 0 ∷ 0x02 ∷ 0x01 ∷ 0x4c ∷ 0x00 ∷ (replicate 54 0

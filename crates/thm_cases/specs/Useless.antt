@@ -1,4 +1,5 @@
--- Builds that would be of no use (document 01, "What the statements have to settle"), each with the run on T1 that it breaks.
+-- Builds that would be of no use (document 01, "What the statements have to settle"), each with the run on T1 that it
+-- breaks.
 use mathlib.Core.Path.{_≡_}
 use mathlib.Core.List.{List, [], _∷_, _++_}
 use Prim.Native.Nat.{ℕ, _+_, _<_}

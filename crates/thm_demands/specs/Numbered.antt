@@ -1,5 +1,5 @@
--- The refusals that no event gets, each given when its rule says and at no other time: 20 to 25 of power-on, 16 of a trace or a batch,
--- and the odd last byte's 12 or 13.
+-- The refusals that no event gets, each given when its rule says and at no other time: 20 to 25 of power-on, 16 of a
+-- trace or a batch, and the odd last byte's 12 or 13.
 use mathlib.Core.Path.{_≡_}
 use mathlib.Core.Bool.{Bool, true, false}
 use mathlib.Core.List.{List, [], _∷_}
@@ -64,12 +64,14 @@ unchanged t b room = record { answer = answer.NoRoom; target = t; buffers = b; r
 abbrev pub TraceRefused : Type 0
 TraceRefused =
     (t : Target) (records room params : List ℕ) (b : Buffers) (flags : List ℕ)
-    → runNumber (traceOf t records room params b flags .answer) ≡ 16 → traceOf t records room params b flags ≡ unchanged t b room
+    → runNumber (traceOf t records room params b flags .answer) ≡ 16
+    → traceOf t records room params b flags ≡ unchanged t b room
 
 abbrev pub BatchRefused : Type 0
 BatchRefused =
     (t : Target) (events : List Event) (room params : List ℕ) (b : Buffers) (flags : List ℕ)
-    → runNumber (batchOf t events room params b flags .answer) ≡ 16 → batchOf t events room params b flags ≡ unchanged t b room
+    → runNumber (batchOf t events room params b flags .answer) ≡ 16
+    → batchOf t events room params b flags ≡ unchanged t b room
 
 -- where a trace's whole records leave it
 abbrev pub ran : Target → List ℕ → List ℕ → List ℕ → Buffers → List ℕ → Running
@@ -78,7 +80,8 @@ ran t records room params b flags = ranAll params flags (eventsOf records) (star
 -- "An odd last byte gets 02 0C, or 02 0D where 13 holds": one reply more, and nothing else
 abbrev pub OddByte : Type 0
 OddByte =
-    (t : Target) (records room params : List ℕ) (b : Buffers) (flags : List ℕ) (s : Running) → s ≡ ran t records room params b flags
+    (t : Target) (records room params : List ℕ) (b : Buffers) (flags : List ℕ) (s : Running)
+    → s ≡ ran t records room params b flags
     → ltb (length room) (length records + length records % 2) ≡ false → eqb (length records % 2) 1 ≡ true
     → (q : Refusal) × ((numberOf q ≡ pick (letsPass (s .target) params (s .buffers) flags) 12 13)
     × (traceOf t records room params b flags

@@ -17,3 +17,4 @@ pub mod Laws
 pub mod Isolation
 pub mod LostPreset
 pub mod Reached
+pub mod Written

@@ -1,4 +1,5 @@
 pub mod Jobs
+pub mod Written
 pub mod Mixture
 pub mod Isolated
 pub mod LostPreset

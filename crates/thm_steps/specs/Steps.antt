@@ -1,5 +1,5 @@
--- Document 01's "The steps", paragraph by paragraph and in its order: a record for each paragraph, a field for each sentence, stated
--- over `stepOf`. proofs/ proves them.
+-- Document 01's "The steps", paragraph by paragraph and in its order: a record for each paragraph, a field for each
+-- sentence, stated over `stepOf`. proofs/ proves them.
 use mathlib.Core.Path.{_≡_}
 use mathlib.Core.Bool.{Bool, true, false, _&&_, _||_, not}
 use mathlib.Core.List.{List}
@@ -179,10 +179,12 @@ module _ (t : Target) (params : List ℕ) (b : Buffers) (flags : List ℕ) where
     pub clears-all : t .clear ≡ false → Taken (command 0x80)
         → LeavesRegisters (command 0x80) (replicate (length (b .registers)) 0xff)
     -- and none with its last row cycle
-    pub clears-once : t .clear ≡ false → (c : Column) (low mid v : ℕ) → At (lastRow first.Program c low mid) → Taken (address v)
+    pub clears-once : t .clear ≡ false → (c : Column) (low mid v : ℕ) → At (lastRow first.Program c low mid)
+        → Taken (address v)
         → LeavesBuffers (address v)
     -- "With it on, only the addressed LUN's, when the last row cycle is accepted"
-    pub clears-one : t .clear ≡ true → (c : Column) (low mid v : ℕ) → At (lastRow first.Program c low mid) → Taken (address v)
+    pub clears-one : t .clear ≡ true → (c : Column) (low mid v : ℕ) → At (lastRow first.Program c low mid)
+        → Taken (address v)
         → LeavesRegisters (address v)
         (splice (b .registers) (registerAt (lun (rowFrom low mid v))) size (replicate size 0xff))
     -- and none with 80h itself
@@ -200,7 +202,8 @@ module _ (t : Target) (params : List ℕ) (b : Buffers) (flags : List ℕ) where
         → (after (command 0x85) .target .decoder .sequence ≡ Moving (record { row = r; got = 0; low = 0 }))
         × LeavesBuffers (command 0x85)
     pub moves-low : (r : Row) (v : ℕ) → At (Moving (record { row = r; got = 0; low = 0 })) → Taken (address v)
-        → (after (address v) .target .decoder .sequence ≡ Moving (record { row = r; got = 1; low = v })) × LeavesBuffers (address v)
+        → (after (address v) .target .decoder .sequence ≡ Moving (record { row = r; got = 1; low = v }))
+        × LeavesBuffers (address v)
     pub moves-high : (r : Row) (low v : ℕ) → At (Moving (record { row = r; got = 1; low = low })) → Taken (address v)
         → (after (address v) .target .decoder .sequence ≡ filling r (columnFrom low v)) × LeavesBuffers (address v)
     -- 10h is accepted where a program takes data alone
@@ -222,7 +225,8 @@ module _ (t : Target) (params : List ℕ) (b : Buffers) (flags : List ℕ) where
     pub starts : (r : Row) (c : Column) → At (filling r c) → Taken (command 0x10)
         → blockBad (t .geometry) r flags ≡ false → pageFull (t .geometry) r (b .counts) ≡ false
         → after (command 0x10) .target .luns ≡ set (t .luns) (lun r) (working false)
-    -- "If the block's flag is not 0 or the count is at or above programs a page, array and count stay, FAIL is 1, and work still starts"
+    -- "If the block's flag is not 0 or the count is at or above programs a page, array and count stay, FAIL is 1, and
+    -- work still starts"
     pub stays : (r : Row) (c : Column) → At (filling r c) → Taken (command 0x10)
         → (blockBad (t .geometry) r flags || pageFull (t .geometry) r (b .counts)) ≡ true
         → LeavesBuffers (command 0x10) × (after (command 0x10) .target .luns ≡ set (t .luns) (lun r) (working true))
@@ -235,7 +239,8 @@ module _ (t : Target) (params : List ℕ) (b : Buffers) (flags : List ℕ) where
     -- D0h is accepted after 60h and its three addresses alone
     pub only-here : Taken (command 0xd0) → (k : Wait) × ((At (Due k)) × (k .first ≡ first.Erase))
     -- "D0h sets the block's bytes to FFh and its counts to 0"
-    pub erases : (c : Column) (r : Row) → At (due first.Erase c r) → Taken (command 0xd0) → blockBad (t .geometry) r flags ≡ false
+    pub erases : (c : Column) (r : Row) → At (due first.Erase c r) → Taken (command 0xd0)
+        → blockBad (t .geometry) r flags ≡ false
         → (after (command 0xd0) .buffers ≡ record {
           array = splice (b .array) (blockIndex (t .geometry) r * t .geometry .pages * size) (t .geometry .pages * size)
               (replicate (t .geometry .pages * size) 0xff);
@@ -245,13 +250,15 @@ module _ (t : Target) (params : List ℕ) (b : Buffers) (flags : List ℕ) where
         })
         × (after (command 0xd0) .target .luns ≡ set (t .luns) (lun r) (working false))
     -- "A factory bad block stays and gives FAIL"
-    pub stays : (c : Column) (r : Row) → At (due first.Erase c r) → Taken (command 0xd0) → blockBad (t .geometry) r flags ≡ true
+    pub stays : (c : Column) (r : Row) → At (due first.Erase c r) → Taken (command 0xd0)
+        → blockBad (t .geometry) r flags ≡ true
         → LeavesBuffers (command 0xd0) × (after (command 0xd0) .target .luns ≡ set (t .luns) (lun r) (working true))
 
   -- **Work.** Read, Program and Erase say that 30h, 10h and D0h begin it, and which FAIL each sets afresh.
   pub record Work : Type 0 where
     -- "A LUN works .. to its finish event", which leaves FAIL as it is
-    pub finishes : (l : ℕ) → Taken (finish l) → after (finish l) .target .luns ≡ set (t .luns) l (waiting (failed (t .luns) l))
+    pub finishes : (l : ℕ) → Taken (finish l)
+        → after (finish l) .target .luns ≡ set (t .luns) l (waiting (failed (t .luns) l))
     -- and no other event but FFh begins or ends it, or sets FAIL
     pub else-as-it-is : (e : Event) → Taken e → beginsWork e ≡ false → eqb (e .kind) 4 ≡ false → isReset e ≡ false
         → after e .target .luns ≡ t .luns
@@ -296,7 +303,8 @@ module _ (t : Target) (params : List ℕ) (b : Buffers) (flags : List ℕ) where
     pub no-fifth : Out (output.Signature 4) → Live → RefusedWith 8 dataOut
     -- "ECh with 00h: the page three times, 768 bytes"
     pub page : At (Single first.ParameterPage) → Taken (address 0x00) → Shows (address 0x00) (output.Parameters 0)
-    pub page-byte : (at : ℕ) → at < 768 → Out (output.Parameters at) → Live → Gives (getD params (at % 256) 0) (output.Parameters (at + 1))
+    pub page-byte : (at : ℕ) → at < 768 → Out (output.Parameters at) → Live
+        → Gives (getD params (at % 256) 0) (output.Parameters (at + 1))
     pub page-ends : Out (output.Parameters 768) → Live → RefusedWith 8 dataOut
     -- "EEh/EFh know address 01h only"
     pub get : At (Single first.GetFeatures) → Taken (address 0x01) → Shows (address 0x01) (output.Feature 0)
@@ -311,12 +319,15 @@ module _ (t : Target) (params : List ℕ) (b : Buffers) (flags : List ℕ) where
     pub p4-out : Out (output.Feature 3) → Live → Gives 0 (output.Feature 4)
     pub four-out : Out (output.Feature 4) → Live → RefusedWith 8 dataOut
     -- EFh: "P1 0 or 40h .. 40h needs feature bit 8"
-    pub p1-offered : (v value : ℕ) → At (setting 0 value) → Live → (eqb v 0 || eqb v 0x40 && hasFeature (t .words) 8) ≡ true
+    pub p1-offered : (v value : ℕ) → At (setting 0 value) → Live
+        → (eqb v 0 || eqb v 0x40 && hasFeature (t .words) 8) ≡ true
         → after (dataIn v) .reply ≡ reply.Accepted
-    pub p1-else : (v value : ℕ) → At (setting 0 value) → Live → (eqb v 0 || eqb v 0x40 && hasFeature (t .words) 8) ≡ false
+    pub p1-else : (v value : ℕ) → At (setting 0 value) → Live
+        → (eqb v 0 || eqb v 0x40 && hasFeature (t .words) 8) ≡ false
         → RefusedWith 9 (dataIn v)
     -- "the rest 0"
-    pub rest-zero : (got value v : ℕ) → eqb got 0 ≡ false → At (setting got value) → Live → eqb v 0 ≡ false → RefusedWith 9 (dataIn v)
+    pub rest-zero : (got value v : ℕ) → eqb got 0 ≡ false → At (setting got value) → Live → eqb v 0 ≡ false
+        → RefusedWith 9 (dataIn v)
     -- "EFh takes hold at its fourth byte": the first three are kept in the decoder
     pub first-byte : (v value : ℕ) → At (setting 0 value) → Taken (dataIn v)
         → (after (dataIn v) .target .decoder .sequence ≡ setting 1 v) × (after (dataIn v) .target .clear ≡ t .clear)
@@ -330,8 +341,8 @@ module _ (t : Target) (params : List ℕ) (b : Buffers) (flags : List ℕ) where
     pub at-once : (v got value : ℕ) → At (setting got value) → Taken (dataIn v)
         → (after (dataIn v) .target .luns ≡ t .luns) × LeavesBuffers (dataIn v)
 
-  -- **Reset.** "FFh: sequence and output dropped, registers FFh, program-clear off, every LUN ready, FAIL 0, array and counts as they
-  -- are": accepted wherever rule 13 lets pass, and nothing else changes
+  -- **Reset.** "FFh: sequence and output dropped, registers FFh, program-clear off, every LUN ready, FAIL 0, array
+  -- and counts as they are": accepted wherever rule 13 lets pass, and nothing else changes
   abbrev pub Reset : Type 0
   Reset =
       letsPass t params b flags ≡ true
