@@ -36,6 +36,14 @@ def page(luns, cycles):
     return bytes(p)
 
 
+def bad_page():
+    """Part TINY's page with every rule of `nib check` broken: 513 data bytes, 3 pages a block, no LUN, no program, endurance 1 and 17."""
+    p = bytearray(page(0, 0x23))
+    p[80:84], p[92], p[105], p[106], p[110] = (513).to_bytes(4, 'little'), 3, 1, 17, 0
+    p[254:256] = crc(p[:254]).to_bytes(2, 'little')
+    return bytes(p)
+
+
 def read(text):
     """Text to trace."""
     out = bytearray()
@@ -89,6 +97,8 @@ def files():
     yield 'real_page', makers[:256]
     yield 'damaged_page', makers[256:512]
     yield 'wrong_page', page(7, 0x24)
+    yield 'answer', makers[:256] * 3
+    yield 'bad_answer', makers[256:512] + bad_page() + makers[:256]
     yield 'trace', read(open(os.path.join(DATA, 'script')).read())
     yield 'look', read(LOOK)
     yield 'many', bytes(x for r in many() for x in r) + b'\x03'

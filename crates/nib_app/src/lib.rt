@@ -12,6 +12,7 @@ use nib_args::allowed;
 use nib_args::asked_of;
 use nib_args::is_word;
 use nib_demo::demo::tell;
+use nib_check::show_check;
 use nib_files::part::Array;
 use nib_files::part::Counts;
 use nib_files::part::Flags;
@@ -57,10 +58,15 @@ fn usage_files(out: &mut Paper, p: Pen) -> Pen {
         p,
         b"  nib explain DIR < TRACE    the same in words; the folder stays as it is\n",
     );
-    text(
+    let p = text(
         out,
         p,
         b"  nib page FILE              what a parameter page says, and power-on's answer\n",
+    );
+    text(
+        out,
+        p,
+        b"  nib check FILE             which rules a part's answer to ECh breaks: 768 bytes, its page three times\n",
     )
 }
 
@@ -165,6 +171,7 @@ fn on_part(asked: Asked, second: &[u8], third: &[u8], input: i32, out: &mut Pape
         Asked::Text => {}
         Asked::Back => {}
         Asked::Page => {}
+        Asked::Check => {}
         Asked::Parts => {}
         Asked::Version => {}
         Asked::Help => {}
@@ -187,6 +194,7 @@ fn has_part(asked: Asked) -> bool {
         Asked::Text => false,
         Asked::Back => false,
         Asked::Page => false,
+        Asked::Check => false,
         Asked::Parts => false,
         Asked::Version => false,
         Asked::Help => false,
@@ -204,6 +212,7 @@ fn without_part(asked: Asked, second: &[u8], input: i32, out: &mut Paper) {
         Asked::Text => from_text(input, out),
         Asked::Back => to_text(input, out),
         Asked::Page => show_page(second, out),
+        Asked::Check => show_check(second, out),
         Asked::Parts => show_parts(out),
         Asked::Version => show_version(out),
         Asked::Help => usage(libc::STDOUT_FILENO, out),

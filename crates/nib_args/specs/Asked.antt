@@ -6,7 +6,7 @@ use lib.Dec.{eqb}
 use lib.ListN.{getD}
 use Rattle.target.specs.Pick.{pick}
 use Rattle.nib_args.specs.declared.Asked.{Asked}
-use Rattle.nib_args.specs.declared.Asked.the-variants.{Demo, New, NewFrom, Run, Explain, Text, Back, Page, Parts, Version, Help, Wrong}
+use Rattle.nib_args.specs.declared.Asked.the-variants.{Demo, New, NewFrom, Run, Explain, Text, Back, Page, Check, Parts, Version, Help, Wrong}
 use Rattle.nib_args.specs.declared.May.{May}
 
 -- the same bytes in the same order
@@ -35,7 +35,7 @@ partsWord = 112 ∷ 97 ∷ 114 ∷ 116 ∷ 115 ∷ []
 abbrev pub helpFlag : List ℕ
 helpFlag = 45 ∷ 45 ∷ 104 ∷ 101 ∷ 108 ∷ 112 ∷ []
 
--- new, run, explain, page, -d
+-- new, run, explain, page, check, -d
 abbrev pub newWord : List ℕ
 newWord = 110 ∷ 101 ∷ 119 ∷ []
 
@@ -47,6 +47,9 @@ explainWord = 101 ∷ 120 ∷ 112 ∷ 108 ∷ 97 ∷ 105 ∷ 110 ∷ []
 
 abbrev pub pageWord : List ℕ
 pageWord = 112 ∷ 97 ∷ 103 ∷ 101 ∷ []
+
+abbrev pub checkWord : List ℕ
+checkWord = 99 ∷ 104 ∷ 101 ∷ 99 ∷ 107 ∷ []
 
 abbrev pub backFlag : List ℕ
 backFlag = 45 ∷ 100 ∷ []
@@ -72,7 +75,8 @@ named w =
     (pick (sameBytes w runWord) Run
     (pick (sameBytes w explainWord) Explain
     (pick (sameBytes w pageWord) Page
-    Wrong)))
+    (pick (sameBytes w checkWord) Check
+    Wrong))))
 
 -- a word with another after it: a folder, a file, -d or --help
 unfoldable pub withOneOf : List ℕ → List ℕ → Asked
@@ -109,6 +113,7 @@ mayOf Explain = mayNothing
 mayOf Text = mayNothing
 mayOf Back = mayNothing
 mayOf Page = mayNothing
+mayOf Check = mayNothing
 mayOf Parts = mayNothing
 mayOf Version = mayNothing
 mayOf Help = mayNothing

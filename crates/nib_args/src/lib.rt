@@ -16,6 +16,8 @@ pub enum Asked {
     // trace to text
     Back,
     Page,
+    // an answer to ECh
+    Check,
     Parts,
     Version,
     Help,
@@ -65,7 +67,8 @@ pub fn dashed(v: &[u8]) -> bool
 pub fn named(w: &[u8]) -> Asked
     ensures { λ r. ⌜ r ≡ named (now (w .entry)) ⌝ }
 {
-    let a = pick_asked(is_word(w, b"page"), Asked::Page, Asked::Wrong);
+    let a = pick_asked(is_word(w, b"check"), Asked::Check, Asked::Wrong);
+    let a = pick_asked(is_word(w, b"page"), Asked::Page, a);
     let a = pick_asked(is_word(w, b"explain"), Asked::Explain, a);
     let a = pick_asked(is_word(w, b"run"), Asked::Run, a);
     pick_asked(is_word(w, b"new"), Asked::New, a)
@@ -104,6 +107,7 @@ pub fn allowed(asked: Asked) -> May
         Asked::Text => may_nothing(),
         Asked::Back => may_nothing(),
         Asked::Page => may_nothing(),
+        Asked::Check => may_nothing(),
         Asked::Parts => may_nothing(),
         Asked::Version => may_nothing(),
         Asked::Help => may_nothing(),

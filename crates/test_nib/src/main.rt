@@ -53,6 +53,17 @@ fn pages() {
     tried(b"page wrong_page", Asked::Page, b"wrong_page", b"", b"look");
 }
 
+fn checks() {
+    tried(b"check answer", Asked::Check, b"answer", b"", b"look");
+    tried(
+        b"check bad_answer",
+        Asked::Check,
+        b"bad_answer",
+        b"",
+        b"look",
+    );
+}
+
 fn folders() {
     tried(b"new made", Asked::New, b"made", b"", b"look");
     tried(b"explain made", Asked::Explain, b"made", b"", b"look");
@@ -70,5 +81,6 @@ fn main() {
     texts();
     runs();
     pages();
+    checks();
     folders();
 }
