@@ -41,6 +41,15 @@ is-word-requires-4 c κs = search needs
 pick-asked-requires-4 : tie.Need-pick-asked-requires-4
 pick-asked-requires-4 c κs = search needs
 
+slice-aggregate-is-word-5 : tie.Need-slice-aggregate-is-word-5
+slice-aggregate-is-word-5 c = search needs
+
+is-word-requires-5 : tie.Need-is-word-requires-5
+is-word-requires-5 c κs = search needs
+
+pick-asked-requires-5 : tie.Need-pick-asked-requires-5
+pick-asked-requires-5 c κs = search needs
+
 returns : tie.Need-returns
 unfolding named
 returns c =
@@ -51,15 +60,19 @@ returns c =
     let c7 = c6 .before in
     let c9 = c7 .before .before in
     let c10 = c9 .before in
+    let c12 = c10 .before .before in
+    let c13 = c12 .before in
     rw (
-      c .pick-asked4 .ensures,
-      c1 .is-word4 .ensures,
-      c3 .pick-asked3 .ensures,
-      c4 .is-word3 .ensures,
-      c6 .pick-asked2 .ensures,
-      c7 .is-word2 .ensures,
-      c9 .pick-asked .ensures,
-      c10 .is-word .ensures,
+      c .pick-asked5 .ensures,
+      c1 .is-word5 .ensures,
+      c3 .pick-asked4 .ensures,
+      c4 .is-word4 .ensures,
+      c6 .pick-asked3 .ensures,
+      c7 .is-word3 .ensures,
+      c9 .pick-asked2 .ensures,
+      c10 .is-word2 .ensures,
+      c12 .pick-asked .ensures,
+      c13 .is-word .ensures,
     )
 
 pub named-spec : {M : Type 1} → statement M
@@ -78,4 +91,7 @@ named-spec =
     slice-aggregate-is-word-4
     is-word-requires-4
     pick-asked-requires-4
+    slice-aggregate-is-word-5
+    is-word-requires-5
+    pick-asked-requires-5
     returns)
