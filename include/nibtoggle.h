@@ -3,11 +3,11 @@
  * Bus cycles go in; replies, status and array contents come out. docs/MODEL.md of the repository has all of the
  * model's rules: events and replies, the commands, addresses, refusals, and what a driver meets.
  *
- * The functions below that are not inline are compiled from proved code. What nib_power_on, nib_event, nib_trace and
- * nib_rest answer, and every byte that they leave in the record and in the buffers, is settled by definitions
- * (crates/host/specs). They allocate nothing, keep nothing between calls, read no clock and call nothing but memcpy,
- * memmove, memset and the like of the C library, so any number of targets may be used at once, each by one thread at a
- * time.
+ * The functions below that are not inline are compiled from proved code: what they answer, and every byte that they
+ * leave in the record and in the buffers, is settled by definitions (docs/STATEMENTS.md names them); of those that
+ * write text or words, at the end, only how many bytes they write at most is. They allocate nothing, keep nothing
+ * between calls, read no clock and call nothing but memcpy, memmove, memset and the like of the C library, so any
+ * number of targets may be used at once, each by one thread at a time.
  *
  * WHAT THE CALLER LENDS. A target is a record (nib_target) and five buffers, all the caller's own:
  *

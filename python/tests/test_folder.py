@@ -19,7 +19,7 @@ from nibtoggle import Bench, FolderError, Refused, crc, parameter_page  # noqa: 
 from nibtoggle.parts import PARTS, page_of  # noqa: E402
 
 NIBS = ROOT / "crates" / "test_nib" / "data"
-MAKERS = (ROOT / "crates" / "pages" / "data" / "makers").read_bytes()
+MAKERS = (ROOT / "crates" / "test_pages" / "data" / "makers").read_bytes()
 
 
 def files(folder: Path) -> Dict[str, bytes]:

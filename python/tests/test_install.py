@@ -156,7 +156,8 @@ class Header(unittest.TestCase):
         self.assertEqual((said.returncode, said.stdout), (0, ""))
         import nibtoggle
         text = (ROOT / "include" / "nibtoggle.h").read_text(encoding="utf-8")
-        cases = {int(n): words for n, words in re.findall(r'case (\d+): return "(.*)";', text)}
+        table = text[text.index("*nib_words("):]
+        cases = {int(n): words for n, words in re.findall(r'case (\d+): return "(.*)";', table[:table.index("\n}\n")])}
         self.assertEqual(cases, dict(nibtoggle.RULES))
         self.assertEqual(sorted(cases), sorted(int(n) for n in re.findall(r"NIB_REFUSED_\w+ = (\d+)", text)))
 

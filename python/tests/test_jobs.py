@@ -107,8 +107,10 @@ class Bench_jobs(unittest.TestCase):
     def test_row_too_wide(self) -> None:
         bench = Bench.t1()
         bench.reset()
-        with self.assertRaisesRegex(ValueError, "24 bits"):
+        with self.assertRaisesRegex(ValueError, "^LUN is 0 to 1, and 1073741824 was given$"):
             bench.erase(1 << 30, 0)
+        with self.assertRaisesRegex(ValueError, "^row is 0 to 16777215, and 16777216 was given$"):
+            bench.erase(row=1 << 24)
 
 
 if __name__ == "__main__":
