@@ -1,16 +1,6 @@
 // `nib check`: which rules the pages of an answer to ECh break.
 use libc::STDERR_FILENO;
 use libc::STDOUT_FILENO;
-use page::fields::data_bytes;
-use page::fields::lun_count;
-use page::fields::pages_a_block;
-use page::fields::programs_a_page;
-use page_check::Checked;
-use page_check::Found;
-use page_check::check_answer;
-use page_check::endurance::Endurance;
-use page_check::rules::Broken;
-use page_check::rules::multiplier;
 use nib_print::pen::Paper;
 use nib_print::pen::Pen;
 use nib_print::pen::begin;
@@ -21,6 +11,16 @@ use nib_print::pen::number;
 use nib_print::pen::pad;
 use nib_print::pen::put;
 use nib_print::pen::text;
+use page::fields::data_bytes;
+use page::fields::lun_count;
+use page::fields::pages_a_block;
+use page::fields::programs_a_page;
+use page_check::Checked;
+use page_check::Found;
+use page_check::check_answer;
+use page_check::endurance::Endurance;
+use page_check::page_rules::Broken;
+use page_check::page_rules::multiplier;
 
 // A comma before every third digit from the end, the first apart.
 fn comma(out: &mut Paper, p: Pen, i: usize, left: usize) -> Pen {

@@ -8,7 +8,7 @@ use native.Mathlib.Omega.{arith}
 use borrow.Author.Tests.{lt-ltb}
 use lib.ListN.{length, set, length-append}
 use Rattle.page_check.specs.Check.{listed, padded, laid, added}
-use Rattle.page_check.specs.declared.rules.Broken.{Broken}
+use Rattle.page_check.specs.declared.page_rules.Broken.{Broken}
 
 -- a byte put at the first free place
 put-last : (n : ℕ) (xs : List ℕ) (byte : ℕ) → length xs < n → set (padded n xs) (length xs) byte ≡ padded n (xs ++ byte ∷ [])

@@ -9,7 +9,7 @@ use Rattle.page.specs.Page.{field, signed, crcGood, dataBytes, pagesABlock, lun
 use Rattle.page_check.specs.declared.Found.{Found}
 use Rattle.page_check.specs.declared.Found.the-variants.{Length, NoGoodCopy, Copy}
 use Rattle.page_check.specs.declared.Checked.{Checked}
-use Rattle.page_check.specs.declared.rules.Broken.{Broken}
+use Rattle.page_check.specs.declared.page_rules.Broken.{Broken}
 use Rattle.page_check.specs.declared.endurance.Endurance.{Endurance}
 use Rattle.page_check.specs.declared.endurance.Endurance.the-variants.{Nothing, Cycles}
 

@@ -1,5 +1,5 @@
 // Block endurance: byte 105 times ten to byte 106.
-use crate::rules::multiplier;
+use crate::page_rules::multiplier;
 use page::fields::field_1;
 ghost use mathlib.Core.Path.{_≡_};
 ghost use Prim.Native.Nat.{_≤_, _^_};

@@ -1,15 +1,15 @@
 // A checker for other people's parameter pages: for the 768 bytes that a part answers to ECh, its page three times.
 pub mod endurance;
+pub mod page_rules;
 pub mod report;
-pub mod rules;
 
 use endurance::Endurance;
 use endurance::endurance_of;
 use page::limits::crc_good;
 use page::limits::is_signed;
-use rules::Broken;
-use rules::broken_rules;
-use rules::no_rule;
+use page_rules::Broken;
+use page_rules::broken_rules;
+use page_rules::no_rule;
 ghost use mathlib.Core.Path.{_≡_};
 ghost use Rattle.page_check.specs.Check.{good, nothing, onCopy, checkedOf};
 

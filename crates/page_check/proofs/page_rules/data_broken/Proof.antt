@@ -1,9 +1,9 @@
--- `page_check::rules::data_broken` meets its contract.
+-- `page_check::page_rules::data_broken` meets its contract.
 -- Assumes nothing.
 use Rattle.page_check.specs.Check.{dataBroken}
 use borrow.Author.Needs.{needs}
-use Rattle.page_check.proofs.rules.data_broken.Statement.{statement}
-use Rattle.page_check.proofs.rules.data_broken.Tie as tie
+use Rattle.page_check.proofs.page_rules.data_broken.Statement.{statement}
+use Rattle.page_check.proofs.page_rules.data_broken.Tie as tie
 
 data-bytes-requires : tie.Need-data-bytes-requires
 data-bytes-requires c κs = search needs

@@ -1,9 +1,9 @@
--- `page_check::rules::programs_broken` meets its contract.
+-- `page_check::page_rules::programs_broken` meets its contract.
 -- Assumes nothing.
 use Rattle.page_check.specs.Check.{programsBroken}
 use borrow.Author.Needs.{needs}
-use Rattle.page_check.proofs.rules.programs_broken.Statement.{statement}
-use Rattle.page_check.proofs.rules.programs_broken.Tie as tie
+use Rattle.page_check.proofs.page_rules.programs_broken.Statement.{statement}
+use Rattle.page_check.proofs.page_rules.programs_broken.Tie as tie
 
 programs-a-page-requires : tie.Need-programs-a-page-requires
 programs-a-page-requires c κs = search needs

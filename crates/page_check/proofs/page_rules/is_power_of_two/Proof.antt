@@ -1,4 +1,4 @@
--- `page_check::rules::is_power_of_two` meets its contract. The invariant: what is left to look at below k decides.
+-- `page_check::page_rules::is_power_of_two` meets its contract. The invariant: what is left to look at below k decides.
 -- Assumes nothing.
 use mathlib.Core.Path.{_≡_, refl, sym, _∙_}
 use mathlib.Core.Bool.{true}
@@ -8,8 +8,8 @@ use native.Mathlib.Omega.{arith}
 use borrow.Author.Tests.{eq-eqb, ne-eqb}
 use lib.Pow.{shl-exact}
 use Rattle.page_check.specs.Check.{powerBelow}
-use Rattle.page_check.proofs.rules.is_power_of_two.Statement.{statement}
-use Rattle.page_check.proofs.rules.is_power_of_two.Tie as tie
+use Rattle.page_check.proofs.page_rules.is_power_of_two.Statement.{statement}
+use Rattle.page_check.proofs.page_rules.is_power_of_two.Tie as tie
 
 record Inv (n k : ℕ) : Type 0 where
   small : k ≤ 32

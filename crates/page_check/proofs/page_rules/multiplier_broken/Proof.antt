@@ -1,9 +1,9 @@
--- `page_check::rules::multiplier_broken` meets its contract.
+-- `page_check::page_rules::multiplier_broken` meets its contract.
 -- Assumes nothing.
 use Rattle.page_check.specs.Check.{multiplierBroken}
 use borrow.Author.Needs.{needs}
-use Rattle.page_check.proofs.rules.multiplier_broken.Statement.{statement}
-use Rattle.page_check.proofs.rules.multiplier_broken.Tie as tie
+use Rattle.page_check.proofs.page_rules.multiplier_broken.Statement.{statement}
+use Rattle.page_check.proofs.page_rules.multiplier_broken.Tie as tie
 
 multiplier-requires : tie.Need-multiplier-requires
 multiplier-requires c κs = search needs

@@ -1,12 +1,12 @@
--- `page_check::rules::with_rule` meets its contract.
+-- `page_check::page_rules::with_rule` meets its contract.
 -- Assumes nothing.
 use mathlib.Core.Bool.{and-eq-true-iff}
 use native.Mathlib.Omega.{arith}
 use lib.Dec.{ltb}
 use borrow.Author.Tests.{ltb-true}
 use Rattle.page_check.specs.Check.{added}
-use Rattle.page_check.proofs.rules.with_rule.Statement.{statement}
-use Rattle.page_check.proofs.rules.with_rule.Tie as tie
+use Rattle.page_check.proofs.page_rules.with_rule.Statement.{statement}
+use Rattle.page_check.proofs.page_rules.with_rule.Tie as tie
 
 element-write-n : tie.Need-element-write-n
 element-write-n c =

@@ -1,9 +1,9 @@
--- `page_check::rules::pages_broken` meets its contract.
+-- `page_check::page_rules::pages_broken` meets its contract.
 -- Assumes nothing.
 use Rattle.page_check.specs.Check.{pagesBroken}
 use borrow.Author.Needs.{needs}
-use Rattle.page_check.proofs.rules.pages_broken.Statement.{statement}
-use Rattle.page_check.proofs.rules.pages_broken.Tie as tie
+use Rattle.page_check.proofs.page_rules.pages_broken.Statement.{statement}
+use Rattle.page_check.proofs.page_rules.pages_broken.Tie as tie
 
 pages-a-block-requires : tie.Need-pages-a-block-requires
 pages-a-block-requires c κs = search needs

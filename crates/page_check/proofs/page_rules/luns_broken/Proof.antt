@@ -1,9 +1,9 @@
--- `page_check::rules::luns_broken` meets its contract.
+-- `page_check::page_rules::luns_broken` meets its contract.
 -- Assumes nothing.
 use Rattle.page_check.specs.Check.{lunsBroken}
 use borrow.Author.Needs.{needs}
-use Rattle.page_check.proofs.rules.luns_broken.Statement.{statement}
-use Rattle.page_check.proofs.rules.luns_broken.Tie as tie
+use Rattle.page_check.proofs.page_rules.luns_broken.Statement.{statement}
+use Rattle.page_check.proofs.page_rules.luns_broken.Tie as tie
 
 lun-count-requires : tie.Need-lun-count-requires
 lun-count-requires c κs = search needs

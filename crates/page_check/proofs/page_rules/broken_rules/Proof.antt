@@ -1,10 +1,10 @@
--- `page_check::rules::broken_rules` meets its contract.
+-- `page_check::page_rules::broken_rules` meets its contract.
 -- Assumes nothing.
 use Rattle.page_check.specs.Check.{dataBroken, pagesBroken, lunsBroken, multiplierBroken, programsBroken, brokenRules}
 use Rattle.page_check.proofs.Listing.{five}
 use borrow.Author.Needs.{needs}
-use Rattle.page_check.proofs.rules.broken_rules.Statement.{statement}
-use Rattle.page_check.proofs.rules.broken_rules.Tie as tie
+use Rattle.page_check.proofs.page_rules.broken_rules.Statement.{statement}
+use Rattle.page_check.proofs.page_rules.broken_rules.Tie as tie
 
 no-rule-requires : tie.Need-no-rule-requires
 no-rule-requires c κs = search needs

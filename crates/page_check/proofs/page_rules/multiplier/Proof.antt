@@ -1,9 +1,9 @@
--- `page_check::rules::multiplier` meets its contract.
+-- `page_check::page_rules::multiplier` meets its contract.
 -- Assumes nothing.
 use Rattle.page_check.specs.Check.{multiplier}
 use borrow.Author.Needs.{needs}
-use Rattle.page_check.proofs.rules.multiplier.Statement.{statement}
-use Rattle.page_check.proofs.rules.multiplier.Tie as tie
+use Rattle.page_check.proofs.page_rules.multiplier.Statement.{statement}
+use Rattle.page_check.proofs.page_rules.multiplier.Tie as tie
 
 field-1-requires : tie.Need-field-1-requires
 field-1-requires c κs = search needs
