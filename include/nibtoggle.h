@@ -23,7 +23,8 @@
  * WHAT THE CALLER OWES, and nothing else. Of each pointer and the length after it: that many bytes are there,
  * readable, and writable where the pointer is not const; the record is a whole nib_target, aligned as its type
  * asks. The record and the buffers that a call may write (registers at power-on; array, registers, counts and
- * replies otherwise) overlap nothing else that the same call is lent. A pointer may be NULL where its length is 0;
+ * replies otherwise; a job's room and numbers) overlap nothing else that the same call is lent. A pointer may be NULL
+ * where its length is 0;
  * t is never NULL. No other thread writes to any of it during a call. The bytes must last for one call only, and
  * may lie elsewhere at the next one.
  *
