@@ -8,7 +8,7 @@ use target::picks::pick_number;
 ghost use mathlib.Core.Path.{_≡_};
 ghost use Prim.Native.Nat.{_+_, _/_, _<_, _≤_};
 ghost use lib.ListN.{length};
-ghost use Rattle.nib_told.specs.Lines.{isData, timesOf, begunAt, aloneAt, lineAt};
+ghost use Rattle.nib_told.specs.Lines.{isData, timesOf, begunAt, aloneAt, lineAt, isEnd};
 
 // What stands at a place.
 pub enum Told {
@@ -28,6 +28,27 @@ pub struct Line {
     pub told: Told,
     // the place where the next line begins
     pub next: usize,
+}
+
+// The trace has no record there.
+pub fn is_end(told: Told) -> bool
+    ensures { λ b. ⌜ b ≡ isEnd told ⌝ }
+{
+    match told {
+        Told::End => true,
+        Told::Whole { job: _, count: _ } => false,
+        Told::Begun {
+            kind: _,
+            value: _,
+            ends: _,
+        } => false,
+        Told::Event {
+            kind: _,
+            value: _,
+            times: _,
+        } => false,
+        Told::Odd(_) => false,
+    }
 }
 
 // Data in, or a data out as it should be.
