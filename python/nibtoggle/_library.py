@@ -97,7 +97,7 @@ class Library:
         sizes: _Types = [_size, _size, _size, ctypes.c_uint16]
         self.text_job = self._typed("nib_text_job", _byte, state + byte)
         self.text_on_part = self._typed("nib_text_on_part", ctypes.c_uint64, state + sizes)
-        self.row_number = self._typed("nib_row_number", _size, 6 * [_size])
+        self.row_number = self._typed("nib_row_number", _size, [_size, _size, _size, _size, _size, _size])
         self.line_next = self._typed("nib_line_next", _size, room + [_size])
         self.say_line = self._typed("nib_say_line", _size, room + [_size] + sizes + room)
         self.back_next = self._typed("nib_back_next", ctypes.c_uint64, state + byte)

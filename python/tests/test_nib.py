@@ -4,20 +4,25 @@ from __future__ import annotations
 import errno
 import os
 import platform
+import random
 import shutil
 import subprocess
 import sys
 import tempfile
 import unittest
 from pathlib import Path
-from typing import Dict, Tuple
+from typing import Dict, Optional, Tuple
 
 ROOT = Path(__file__).resolve().parent.parent.parent
-sys.path.insert(0, str(ROOT / "python"))
+sys.path[:0] = [str(ROOT / "python"), str(ROOT / "python" / "tests")]
 
 import nibtoggle  # noqa: E402
+import test_job_words  # noqa: E402
 from nibtoggle import Bench, parameter_page, records_of  # noqa: E402
 from nibtoggle.cli import explained  # noqa: E402
+from nibtoggle.jobs import told  # noqa: E402
+from nibtoggle.part import Part  # noqa: E402
+from nibtoggle.parts import PARTS  # noqa: E402
 
 NIB = Path(os.environ.get("NIB_PROGRAM", ROOT / "target" / "bin" / "nib"))
 NIBS = ROOT / "crates" / "test_nib" / "data"
@@ -79,6 +84,7 @@ class Files(Nib):
         before = held(self.part)
         for words, given in ((("explain", "t1"), self.trace), (("explain", "t1"), b""), (("explain", "t1"), b"\x00\xFF\x05"),
                              (("page", "t1/page"), b""), (("text",), SAVE.encode()), (("text", "-d"), self.trace), (("help",), b""),
+                             (("text", "t1"), b"erase 1 5\n"), (("text", "t1"), b"erase 1 9\n"), (("jobs",), self.trace), (("jobs", "t1"), self.trace),
                              (("parts",), b""), (("version",), b""), (("new", "--help"), b""), (("run", "--help"), self.trace)):
             self.nib(*words, given=given)
             self.assertEqual(held(self.part), before, words)
@@ -258,6 +264,81 @@ class Defects(Nib):
         self.assertEqual(said, b"")
         self.assertIn("python3 -m nibtoggle new makes it", error)
         self.assertFalse((self.folder / "x").exists())
+
+
+class Jobs(Nib):
+    """`nib text DIR` and `nib jobs`, which say what Python says."""
+
+    def setUp(self) -> None:
+        super().setUp()
+        self.good("new", "t1")
+        self.good("new", "t2", "T2")
+        shutil.copytree(NIBS / "tiny", self.folder / "tiny")
+        # a part that is more than nib holds, of which its page is enough
+        (self.folder / "large").mkdir()
+        (self.folder / "large" / "page").write_bytes(PARTS["MT29F128G08AJAAAWP"].page * 3)
+        self.parts = {"t1": test_job_words.T1, "t2": test_job_words.T2, "tiny": test_job_words.TINY, "large": test_job_words.LARGE}
+
+    @staticmethod
+    def lines(trace: bytes, part: Optional[Part]) -> bytes:
+        return "".join("%6d  %s\n" % line for line in told(trace, part)).encode()
+
+    def test_texts_and_traces(self) -> None:
+        draw = random.Random(9)
+        for turn in range(60):
+            name = list(self.parts)[turn % 4]
+            part = self.parts[name]
+            text, trace = test_job_words.some_text(draw, part)
+            self.assertEqual(self.good("text", name, given=text.encode()), trace)
+            self.assertEqual(records_of(text, part=part), trace)
+            for told_of in (trace, test_job_words.some_trace(draw)):
+                self.assertEqual(self.good("jobs", name, given=told_of), self.lines(told_of, part))
+                self.assertEqual(self.good("jobs", given=told_of), self.lines(told_of, None))
+
+    def test_a_bad_word_gives_nothing(self) -> None:
+        for bad in ("erase", "erase 1", "erase 1 # 5", "read 1 5 3 f 1", "erase 1 5 3", "erase 2 0", "erase 0 8", "read 0 0 4 0",
+                    "program 0 0 0 528", "program 0 0 0 0 3", "erase 0x0 1", "c erase 1 5", "erases 1 5", "readout 1 0 1"):
+            text = "c ff\nprogram 1 5 3 0 3c a5\n  %s\nerase 1 5\n" % bad
+            with self.assertRaises(nibtoggle.BadWord) as caught:
+                records_of(text, "standard input", part=self.parts["t1"])
+            self.assertEqual(caught.exception.line, 3)
+            self.assertEqual(self.nib("text", "t1", given=text.encode()), (b"", "nib: %s\n" % caught.exception))
+        said, error = self.nib("text", given=b"program 1 5 3 0 3c")
+        self.assertEqual((said, error), (b"", "nib: standard input, line 1, place 1: 'program': a job's word, which needs a part: text DIR\n"))
+
+    def test_the_jobs_are_run(self) -> None:
+        trace = self.good("text", "t1", given=b"c ff\nprogram 1 5 3 0 3c a5  f 1\nstatus 1 1\nread 1 5 3 1  f 1  o 2\nread-out 1 0 1\nerase 1 5  f 1")
+        replies = self.good("run", "t1", given=trace)
+        self.assertEqual([byte for first, byte in zip(replies[::2], replies[1::2]) if first == 1], [0xE0, 0xA5, 0xFF, 0x3C])
+        self.assertNotIn(2, replies[::2])
+        self.assertEqual(held(self.part)["array"][0], b"\xFF" * 33792)
+
+    def test_no_part(self) -> None:
+        (self.folder / "bad").mkdir()
+        (self.folder / "bad" / "page").write_bytes(bytes(256))
+        for command in ("text", "jobs"):
+            self.assertEqual(self.nib(command, "none", given=b"c ff"), (b"", "nib: none/page: No such file or directory\n"))
+            self.assertEqual(self.nib(command, "bad", given=b"c ff"), (b"", "nib: bad/page: power-on refused 21: %s\n" % nibtoggle.RULES[21]))
+            for words in ([command, "-x"], [command, "t1", "t2"]):
+                self.assertIn("nib: no such call", self.nib(*words)[1])
+
+    def test_how_much_is_held(self) -> None:
+        most = b"\x03\x00" * 2097152
+        self.assertEqual(self.good("jobs", given=most), b"     1  no job: data out, 2097152 bytes\n")
+        self.assertEqual(self.nib("jobs", given=most + b"\0"), (b"", "nib: standard input: a trace of more than 4194304 bytes; "
+                                                                "python3 -m nibtoggle jobs has no such limit\n"))
+        data = bytes(range(256)) * 1365
+        text = b"program 1 5 3 0 " + data.hex(" ").encode()
+        self.assertLess(1048000, len(text))
+        trace = self.good("text", "t1", given=text)
+        self.assertEqual((len(trace), trace[13:-2:2]), (14 + 2 * len(data), data))
+        self.assertEqual(self.good("jobs", "t1", given=trace), b"     1  program LUN 1 block 5 page 3, column 0, 349440 bytes\n")
+        self.assertEqual(self.good("text", "t1", given=b"read-out 0 0 65535"), records_of("c 06 a 00 00 00 00 00 c e0 o 65535"))
+
+    def test_a_pipe_that_breaks_or_an_input_that_fails(self) -> None:
+        for command in ("text", "jobs"):
+            self.assertIn("standard input: Input/output error", self.nib(command, "t1", given=b"\0\xFF", fail="read:3:%d" % errno.EIO)[1])
+        self.assertIn("standard output: No space left on device", self.nib("jobs", "t1", given=self.trace, fail="out:1:%d" % errno.ENOSPC)[1])
 
 
 class Wrapped(Nib):
