@@ -11,14 +11,14 @@ use borrow.Author.Tests.{eqb-true}
 use lib.ListN.{length, getD}
 use Rattle.target.specs.Commands.{firstCommands, placeOf, rowOf, byteOf, firstOf, secondPlace}
 use Rattle.target.specs.declared.First.{First}
-use Rattle.target.specs.declared.First.the-variants.{Read, ChangeColumn, ChangeColumnEnhanced, Erase, Status, StatusEnhanced, Program, ReadId, ParameterPage, GetFeatures, SetFeatures}
+use Rattle.target.specs.declared.First.the-variants.{Read, ChangeColumn, ChangeColumnEnhanced, Erase, Status, StatusEnhanced, Program, ReadId, ParameterPage, GetFeatures, SetFeatures, CopybackProgram}
 use Rattle.target.specs.declared.commands.FirstFound.{FirstFound}
 use Rattle.target.specs.declared.commands.FirstFound.the-variants as first
 use Rattle.target.specs.declared.Second.{Second}
-use Rattle.target.specs.declared.Second.the-variants.{StartRead, StartOutput, StartProgram, StartErase, Move}
+use Rattle.target.specs.declared.Second.the-variants.{StartRead, StartOutput, StartProgram, StartErase, Move, StartCopyback}
 use Rattle.target.proofs.Both.{both}
 
-pub listed : (f : First) → placeOf f < 11
+pub listed : (f : First) → placeOf f < 12
 listed Read = lit< tt
 listed ChangeColumn = lit< tt
 listed ChangeColumnEnhanced = lit< tt
@@ -30,13 +30,15 @@ listed ReadId = lit< tt
 listed ParameterPage = lit< tt
 listed GetFeatures = lit< tt
 listed SetFeatures = lit< tt
+listed CopybackProgram = lit< tt
 
-pub second-listed : (s : Second) → secondPlace s < 5
+pub second-listed : (s : Second) → secondPlace s < 6
 second-listed StartRead = lit< tt
 second-listed StartOutput = lit< tt
 second-listed StartProgram = lit< tt
 second-listed StartErase = lit< tt
 second-listed Move = lit< tt
+second-listed StartCopyback = lit< tt
 
 -- each stands at its place
 standing : (f : First) → getD firstCommands (placeOf f) Read ≡ f
@@ -51,6 +53,7 @@ standing ReadId = refl
 standing ParameterPage = refl
 standing GetFeatures = refl
 standing SetFeatures = refl
+standing CopybackProgram = refl
 
 abbrev pub every : (First → Bool) → List First → Bool
 every p [] = true
