@@ -938,6 +938,5 @@ pub fn offered(w: Words, inside: bool, v: u8) -> bool
     ensures { λ b. ⌜ b ≡ offered w inside v ⌝ }
 {
     let second = second_of(v);
-    offered_second(w, second)
-        & ((inside & is_second_found(second)) | offered_first(w, first_of(v)))
+    offered_second(w, second) & ((inside & is_second_found(second)) | offered_first(w, first_of(v)))
 }
