@@ -55,7 +55,7 @@ row low = record { low = low; mid = 0; high = 0 }
 abbrev column : ℕ → ColumnBytes
 column low = record { low = low; high = 0 }
 
-mixture : Mixture t1 events
+pub mixture : Mixture t1 events
 unfolding cycles computes
 mixture =
     start (program (column 0) (row 0) (byte 0x3c ∷ byte 0xa5 ∷ [])) (lit< tt) (cycle (cycle (cycle (cycle (cycle (cycle (cycle (cycle (cycle
