@@ -214,7 +214,7 @@ module _ (t : Target) (params : List ℕ) (b : Buffers) (flags : List ℕ) where
         → (after (address v) .target .decoder .sequence ≡ moving f r 1 v) × LeavesBuffers (address v)
     pub moves-high : (f : First) (r : Row) (low v : ℕ) → At (moving f r 1 low) → Taken (address v)
         → (after (address v) .target .decoder .sequence ≡ filling f r (columnFrom low v)) × LeavesBuffers (address v)
-    -- where a sequence is open, 85h is accepted where a program takes data alone
+    -- with a sequence open 85h is accepted where a program takes data alone
     pub only-moves : Taken (command 0x85) → isOpen (t .decoder .sequence) ≡ true → (k : Fill) × At (Filling k)
     -- 10h is accepted where a program takes data alone
     pub only-here : Taken (command 0x10) → (k : Fill) × At (Filling k)
@@ -263,7 +263,8 @@ module _ (t : Target) (params : List ℕ) (b : Buffers) (flags : List ℕ) where
     -- "A factory bad block stays and gives FAIL"
     pub stays : (c : Column) (r : Row) → At (due first.Erase c r) → Taken (command 0xd0)
         → blockBad (t .geometry) r flags ≡ true
-        → LeavesBuffers (command 0xd0) × (after (command 0xd0) .target .luns ≡ set (t .luns) (lun r) (working true false))
+        → LeavesBuffers (command 0xd0)
+        × (after (command 0xd0) .target .luns ≡ set (t .luns) (lun r) (working true false))
 
   -- **Copyback** (document 02, A1).
   pub record Copyback : Type 0 where
@@ -271,7 +272,8 @@ module _ (t : Target) (params : List ℕ) (b : Buffers) (flags : List ℕ) where
     pub only-here : Taken (command 0x35) → (k : Wait) × ((At (Due k)) × (k .first ≡ first.Read))
     -- "35h reads as 30h does"
     pub copies : (c : Column) (r : Row) → At (due first.Read c r) → Taken (command 0x35)
-        → LeavesRegisters (command 0x35) (splice (b .registers) (registerAt (lun r)) size (part (b .array) (pageAt r) size))
+        → LeavesRegisters (command 0x35)
+        (splice (b .registers) (registerAt (lun r)) size (part (b .array) (pageAt r) size))
     pub puts-out : (c : Column) (r : Row) → At (due first.Read c r) → Taken (command 0x35)
         → after (command 0x35) .target .decoder ≡ record { sequence = Idle; output = output.Register (lun r) c }
     -- "and opens a copyback on that LUN"
@@ -279,8 +281,10 @@ module _ (t : Target) (params : List ℕ) (b : Buffers) (flags : List ℕ) where
         → after (command 0x35) .target .luns ≡ set (t .luns) (lun r) (working false true)
     -- "85h as a first command (no sequence open)", which clears nothing, whatever program-clear
     pub begins : At Idle → Taken (command 0x85)
-        → (after (command 0x85) .target .decoder
-        ≡ record { sequence = Columns (record { first = first.CopybackProgram; got = 0; low = 0 }); output = output.Nothing })
+        → (after (command 0x85) .target .decoder ≡ record {
+          sequence = Columns (record { first = first.CopybackProgram; got = 0; low = 0 });
+          output = output.Nothing;
+        })
         × LeavesBuffers (command 0x85)
     -- "programs the register without clearing it": its row clears nothing and leaves the copyback open; data may come
     pub takes-data : (c : Column) (low mid v : ℕ) → At (lastRow first.CopybackProgram c low mid) → Taken (address v)
@@ -303,11 +307,13 @@ module _ (t : Target) (params : List ℕ) (b : Buffers) (flags : List ℕ) where
         → copybackAt (t .luns) (lun (rowFrom low mid v)) ≡ true
         → after (address v) .reply ≡ reply.Accepted
     -- "85h moves are allowed as in a program", and in a program they need no optional bit
-    pub moves : (f : First) (r : Row) (c : Column) → At (filling f r c) → Live → after (command 0x85) .reply ≡ reply.Accepted
+    pub moves : (f : First) (r : Row) (c : Column) → At (filling f r c) → Live
+        → after (command 0x85) .reply ≡ reply.Accepted
     -- "Optional bit 4; without it 35h, and 85h as a first command, are refusal 1"
     pub not-offered : Live → hasOption (t .words) 4 ≡ false → RefusedWith 1 (command 0x35)
     pub lone : At Idle → Live → hasOption (t .words) 4 ≡ false → RefusedWith 1 (command 0x85)
-    -- "Any later .. 80h row .. accepted for that LUN .. closes it": that LUN's alone (30h, D0h and FFh: Read, Erase, Reset)
+    -- "Any later .. 80h row .. accepted for that LUN .. closes it": that LUN's alone (30h, D0h and FFh stand with Read,
+    -- Erase and Reset)
     pub program-closes : (c : Column) (low mid v : ℕ) → At (lastRow first.Program c low mid) → Taken (address v)
         → after (address v) .target .luns
         ≡ set (t .luns) (lun (rowFrom low mid v)) (lunClosed (lunAt (t .luns) (lun (rowFrom low mid v))))
@@ -318,14 +324,16 @@ module _ (t : Target) (params : List ℕ) (b : Buffers) (flags : List ℕ) where
     pub refused : (e : Event) (q : Refusal) → after e .reply ≡ reply.Refused q
         → LeavesBuffers e × (after e .target .luns ≡ t .luns)
 
-  -- **Work.** Read, Program, Erase and Copyback say that 30h, 35h, 10h and D0h begin it, and which FAIL each sets afresh.
+  -- **Work.** Read, Program, Erase and Copyback say that 30h, 10h, D0h and 35h begin it, and which FAIL each sets
+  -- afresh.
   pub record Work : Type 0 where
     -- "A LUN works .. to its finish event", which leaves FAIL as it is
     pub finishes : (l : ℕ) → Taken (finish l)
         → after (finish l) .target .luns ≡ set (t .luns) l (waiting (failed (t .luns) l) (copybackAt (t .luns) l))
     -- and no other event but FFh begins or ends it, or sets FAIL
     pub else-as-it-is : (e : Event) → Taken e → beginsWork e ≡ false → eqb (e .kind) 4 ≡ false → isReset e ≡ false
-        → (l : ℕ) → (works (after e .target .luns) l ≡ works (t .luns) l) × (failed (after e .target .luns) l ≡ failed (t .luns) l)
+        → (l : ℕ) → (works (after e .target .luns) l ≡ works (t .luns) l)
+        × (failed (after e .target .luns) l ≡ failed (t .luns) l)
     -- of the others only the last row cycle of 80h may change the records
     pub only-a-row : (e : Event) → Taken e → beginsWork e ≡ false → eqb (e .kind) 4 ≡ false → isReset e ≡ false
         → ((c : Column) (low mid : ℕ) → At (lastRow first.Program c low mid) → eqb (e .kind) 1 ≡ false)
