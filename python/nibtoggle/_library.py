@@ -30,6 +30,8 @@ class Target(ctypes.Structure):
     ] + [
         (name, _byte)
         for name in ("maker", "device", "sequence", "first", "got", "low", "mid", "value", "output")
+    ] + [
+        ("copyback", _byte * 4),
     ]
 
 
