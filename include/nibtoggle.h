@@ -545,8 +545,10 @@ uint64_t nib_back_next(uint64_t state, uint8_t byte);
 size_t nib_back_text(uint64_t state, uint8_t byte, uint8_t *out, size_t length);
 size_t nib_back_end(uint64_t state, uint8_t *out, size_t length);
 
-/* A record in words; where odd is not 0, its first byte alone, as the odd last byte of a trace. */
-size_t nib_say_event(uint8_t odd, uint8_t kind, uint8_t value, uint8_t *out, size_t length);
+/* A record in words; where odd is not 0, its first byte alone, as the odd last byte of a trace. inside is not 0 where
+ * a sequence is open when it comes (t->sequence != NIB_SEQUENCE_NONE): 85h is then a change of column, and else a
+ * copyback program. */
+size_t nib_say_event(uint8_t odd, uint8_t kind, uint8_t value, uint8_t inside, uint8_t *out, size_t length);
 
 /* A reply in words. lun is the LUN that the event was about, which refusal 5 names. */
 size_t nib_say_reply(uint8_t first, uint8_t second, size_t lun, uint8_t *out, size_t length);
