@@ -16,19 +16,29 @@ use target::address::lun_of;
 use target::views::Given;
 use target::views::completed;
 
-// What a command byte asks for.
-pub fn command_name(out: &mut Paper, p: Pen, v: u8) -> Pen {
+// 85h moves a program's column; with no sequence open it begins a copyback program.
+fn move_or_copyback(out: &mut Paper, p: Pen, inside: bool) -> Pen {
+    if inside {
+        text(out, p, b"  change column")
+    } else {
+        text(out, p, b"  copyback program")
+    }
+}
+
+// What a command byte asks for; `inside` says that a sequence is open where it comes.
+pub fn command_name(out: &mut Paper, p: Pen, v: u8, inside: bool) -> Pen {
     match v {
         0x00 => text(out, p, b"  read"),
         0x05 => text(out, p, b"  change column"),
         0x06 => text(out, p, b"  change LUN and column"),
         0x10 => text(out, p, b"  start programming"),
         0x30 => text(out, p, b"  start reading"),
+        0x35 => text(out, p, b"  start copyback read"),
         0x60 => text(out, p, b"  erase"),
         0x70 => text(out, p, b"  status"),
         0x78 => text(out, p, b"  status of a LUN"),
         0x80 => text(out, p, b"  program"),
-        0x85 => text(out, p, b"  change column"),
+        0x85 => move_or_copyback(out, p, inside),
         0x90 => text(out, p, b"  identify"),
         0xd0 => text(out, p, b"  start erasing"),
         0xe0 => text(out, p, b"  start output"),
@@ -40,10 +50,10 @@ pub fn command_name(out: &mut Paper, p: Pen, v: u8) -> Pen {
     }
 }
 
-fn command(out: &mut Paper, p: Pen, v: u8) -> Pen {
+fn command(out: &mut Paper, p: Pen, v: u8, inside: bool) -> Pen {
     let p = text(out, p, b"command ");
     let p = byte(out, p, v);
-    command_name(out, p, v)
+    command_name(out, p, v, inside)
 }
 
 fn with_byte(out: &mut Paper, p: Pen, words: &[u8], v: u8) -> Pen {
@@ -78,13 +88,13 @@ fn data_out(out: &mut Paper, p: Pen, value: u8) -> Pen {
     }
 }
 
-// A record in words. One byte alone is an odd byte.
-pub fn event(out: &mut Paper, p: Pen, odd: bool, kind: u8, value: u8) -> Pen {
+// A record in words. One byte alone is an odd byte; `inside` says that a sequence is open where the record comes.
+pub fn event(out: &mut Paper, p: Pen, odd: bool, kind: u8, value: u8, inside: bool) -> Pen {
     if odd {
         return with_byte(out, p, b"odd byte ", kind);
     }
     match kind {
-        0 => command(out, p, value),
+        0 => command(out, p, value, inside),
         1 => with_byte(out, p, b"address ", value),
         2 => with_byte(out, p, b"data in ", value),
         3 => data_out(out, p, value),
@@ -174,6 +184,7 @@ pub fn rule(out: &mut Paper, p: Pen, number: u8) -> Pen {
             p,
             b"target not powered, or a length or a number of the record that can't be",
         ),
+        14 => text(out, p, b"no copyback is open there"),
         16 => text(out, p, b"reply room too short"),
         _ => power_rule(out, p, number),
     }

@@ -218,13 +218,21 @@ pub extern "C" fn nib_back_end(state: u64, out: &mut [u8]) -> usize
 
 // ---- words ----
 
-// A record in words, into `out`; where `odd` is not 0, its first byte alone. How many bytes: 64 are room enough.
+// A record in words, into `out`; where `odd` is not 0, its first byte alone; where `inside` is not 0, a sequence is open where it
+// comes. How many bytes: 64 are room enough.
 #[no_mangle]
-pub extern "C" fn nib_say_event(odd: u8, kind: u8, value: u8, out: &mut [u8]) -> usize
+pub extern "C" fn nib_say_event(odd: u8, kind: u8, value: u8, inside: u8, out: &mut [u8]) -> usize
     ensures { λ r. ⌜ r ≤ length (now (out .entry)) ⌝ }
 {
     let mut paper = [0u8; 65536];
-    let p = event(&mut paper, begin(0), !(odd == 0), kind, value);
+    let p = event(
+        &mut paper,
+        begin(0),
+        !(odd == 0),
+        kind,
+        value,
+        !(inside == 0),
+    );
     handed(out, &paper, p.n)
 }
 
