@@ -1,6 +1,6 @@
 #!/usr/bin/env python3
-"""The files of crates/test_nib/data, all but `script` and `look`'s words: the folders and pages, the script's trace, and a
-long trace with its text, by a reader and a writer of their own.
+"""The files of crates/test_nib/data, all but `script`, `job_script` and `look`'s words: the folders and pages, the scripts'
+traces, and a long trace with its text, by a reader and a writer of their own.
 
     python3 tools/expect/nibs.py            # writes them anew
     python3 tools/expect/nibs.py --check    # says whether they are so
@@ -11,7 +11,15 @@ TOP = os.path.dirname(os.path.dirname(os.path.dirname(os.path.abspath(__file__))
 ROOT = os.path.join(TOP, 'crates')
 DATA = os.path.join(ROOT, 'test_nib', 'data')
 LOOK = 'c ff  c 00  a 00 00 01 00 00  c 30  f 0  o 16\nc 78  a 00 00 00  o 1\n'
+NONE = ('c 80  a 00 00 0a 00 00  d 01 02  c 85  a 02 00  d 03  c 10  f 1\n'    # a program with a move
+        'c 80  a 00 00 00 00 00  f 0  d 05 06 07  c 10\n'                      # a finish inside one
+        'c 00  a 00  c 60  a 0e 00 00  c d0\n'                                 # a read that an erase cuts off; no block 3
+        'c 00  a 10 00 00 00 00  c 30  c 78  a 10 00 00  o 1  o 16\n'          # no column 16; no LUN 2; 17 data outs
+        'c 70  o 1  x 03 07  p 0  c 80  a 00 00 00\nx 05\n')                   # it ends inside a program, with an odd byte
 KINDS = {'c': 0, 'a': 1, 'd': 2, 'f': 4, 'p': 5}
+#: The jobs' words: first command, last command, and the values after the word.
+JOBS = {'read': (0x00, 0x30, 'lun block page column'), 'read-out': (0x06, 0xE0, 'lun column count'),
+        'program': (0x80, 0x10, 'lun block page column'), 'erase': (0x60, 0xD0, 'lun block'), 'status': (0x78, None, 'lun count')}
 
 
 def crc(data):
@@ -44,14 +52,32 @@ def bad_page():
     return bytes(p)
 
 
+def job(word, values):
+    """A job's records on TINY, whose rows have one bit of page and two of block."""
+    first, last, names = JOBS[word]
+    names = names.split()
+    at = dict(zip(names, map(int, values)))
+    data = [int(value, 16) for value in values[len(names):]]
+    row = (at['lun'] * 4 + at.get('block', 0)) * 2 + at.get('page', 0)
+    address = [at['column'] & 255, at['column'] >> 8] if 'column' in at else []
+    records = [(0, first)] + [(1, byte) for byte in address + [row & 255, row >> 8 & 255, row >> 16]]
+    records += [(2, byte) for byte in data] + [(0, last)] * (last is not None) + [(3, 0)] * at.get('count', 0)
+    return bytes(byte for record in records for byte in record)
+
+
 def read(text):
     """Text to trace."""
     out = bytearray()
     for line in text.split('\n'):
-        letter = None
-        for word in line.split('#')[0].split():
-            if word in tuple('cadofpx'):
-                letter = word
+        letter, values = None, []
+        for word in line.split('#')[0].split() + ['c']:
+            head = word in JOBS or word in tuple('cadofpx')
+            if letter in JOBS and head:
+                out += job(letter, values)
+            if head:
+                letter, values = word, []
+            elif letter in JOBS:
+                values.append(word)
             elif letter in 'cad':
                 out += bytes([KINDS[letter], int(word, 16)])
             elif letter == 'o':
@@ -101,6 +127,9 @@ def files():
     yield 'bad_answer', makers[256:512] + bad_page() + makers[:256]
     yield 'trace', read(open(os.path.join(DATA, 'script')).read())
     yield 'look', read(LOOK)
+    yield 'job_trace', read(open(os.path.join(DATA, 'job_script')).read())
+    yield 'no_jobs', read(NONE)
+    yield 'nothing', b''
     yield 'many', bytes(x for r in many() for x in r) + b'\x03'
     yield 'many_text', (write(many()) + 'x 03\n').encode()
 

@@ -133,7 +133,7 @@ fn run_from(kind: u8, trace: &[u8], at: usize, most: usize) -> usize
 }
 
 // All records of this kind from `at` on, where any number of them may come; else none are taken.
-fn many(wanted: bool, kind: u8, trace: &[u8], at: usize) -> usize
+pub fn many(wanted: bool, kind: u8, trace: &[u8], at: usize) -> usize
     requires { ⌜ at ≤ length (now trace) / 2 ⌝ }
     ensures { λ k. ⌜ (k ≡ pick wanted (manyOf kind (drop (2 * at) (now (trace .entry)))) 0) × (at + k ≤ length (now (trace .entry)) / 2) ⌝ }
 {

@@ -1,5 +1,5 @@
 // nib, the bench at the command line: all of the program, so that it and the programs that try its commands are one call each. Each
-// command's own work stands in a crate of its own: nib_run, nib_demo, nib_page, nib_translate.
+// command's own work stands in a crate of its own: nib_run, nib_demo, nib_page, nib_check, nib_translate, nib_jobs.
 pub mod known;
 
 use known::is_maker_s;
@@ -21,10 +21,13 @@ use nib_files::part::Part;
 use nib_files::part::T1_ID;
 use nib_files::part::make;
 use nib_files::part::no_part;
+use nib_files::part::no_shape;
 use nib_files::part::planned;
 use nib_files::part::read_page;
+use nib_files::part::shape_of;
 use nib_files::part::t1;
 use nib_files::part::to_t2;
+use nib_jobs::tell_jobs;
 use nib_page::pages::show_page;
 use nib_print::pen::Paper;
 use nib_print::pen::Pen;
@@ -76,7 +79,17 @@ fn usage_texts(out: &mut Paper, p: Pen) -> Pen {
         p,
         b"  nib text < TEXT > TRACE    a trace from text, as: c 80  a 00 00 37 00 00  d 3c  o 16  f 1  p 0\n",
     );
+    let p = text(
+        out,
+        p,
+        b"  nib text DIR < TEXT        with whole jobs too, on the folder's part, as: program 1 5 3 0 3c a5  f 1  erase 1 5\n",
+    );
     let p = text(out, p, b"  nib text -d < TRACE        a trace as text\n");
+    let p = text(
+        out,
+        p,
+        b"  nib jobs [DIR] < TRACE     a trace told as whole jobs; with DIR by LUN, block and page of its part\n",
+    );
     let p = text(out, p, b"  nib version                the version\n");
     text(out, p, b"  nib help                   these lines\n")
 }
@@ -124,7 +137,7 @@ fn make_new(
     }
 }
 
-// The commands that have a part. Its buffers stand here alone, and this is called in one place, since the stack has no room for
+// The commands that have a part, or need as much room. Its buffers stand here alone, and this is called in one place, since the stack has no room for
 // two sets.
 fn on_part(asked: Asked, second: &[u8], third: &[u8], input: i32, out: &mut Paper) {
     let may = allowed(asked);
@@ -169,7 +182,16 @@ fn on_part(asked: Asked, second: &[u8], third: &[u8], input: i32, out: &mut Pape
             &mut flags,
         ),
         Asked::Text => {}
+        Asked::TextOn => {}
         Asked::Back => {}
+        // the trace stands where a part's array would
+        Asked::Jobs => tell_jobs(no_shape(), input, &mut array, out),
+        Asked::JobsOn => {
+            let part = shape_of(second);
+            if part.good {
+                tell_jobs(part, input, &mut array, out);
+            }
+        }
         Asked::Page => {}
         Asked::Check => {}
         Asked::Parts => {}
@@ -192,13 +214,24 @@ fn has_part(asked: Asked) -> bool {
         Asked::Run => true,
         Asked::Explain => true,
         Asked::Text => false,
+        Asked::TextOn => false,
         Asked::Back => false,
+        Asked::Jobs => true,
+        Asked::JobsOn => true,
         Asked::Page => false,
         Asked::Check => false,
         Asked::Parts => false,
         Asked::Version => false,
         Asked::Help => false,
         Asked::Wrong => false,
+    }
+}
+
+// `nib text DIR`.
+fn text_on(dir: &[u8], input: i32, out: &mut Paper) {
+    let part = shape_of(dir);
+    if part.good {
+        from_text(part, input, out);
     }
 }
 
@@ -209,8 +242,11 @@ fn without_part(asked: Asked, second: &[u8], input: i32, out: &mut Paper) {
         Asked::NewFrom => {}
         Asked::Run => {}
         Asked::Explain => {}
-        Asked::Text => from_text(input, out),
+        Asked::Text => from_text(no_shape(), input, out),
+        Asked::TextOn => text_on(second, input, out),
         Asked::Back => to_text(input, out),
+        Asked::Jobs => {}
+        Asked::JobsOn => {}
         Asked::Page => show_page(second, out),
         Asked::Check => show_check(second, out),
         Asked::Parts => show_parts(out),

@@ -6,7 +6,7 @@ use lib.Dec.{eqb}
 use lib.ListN.{getD}
 use Rattle.target.specs.Pick.{pick}
 use Rattle.nib_args.specs.declared.Asked.{Asked}
-use Rattle.nib_args.specs.declared.Asked.the-variants.{Demo, New, NewFrom, Run, Explain, Text, Back, Page, Check, Parts, Version, Help, Wrong}
+use Rattle.nib_args.specs.declared.Asked.the-variants.{Demo, New, NewFrom, Run, Explain, Text, TextOn, Back, Jobs, JobsOn, Page, Check, Parts, Version, Help, Wrong}
 use Rattle.nib_args.specs.declared.May.{May}
 
 -- the same bytes in the same order
@@ -16,12 +16,15 @@ sameBytes [] (b ∷ t) = false
 sameBytes (a ∷ s) [] = false
 sameBytes (a ∷ s) (b ∷ t) = eqb a b && sameBytes s t
 
--- demo, text, help, version, parts, --help
+-- demo, text, jobs, help, version, parts, --help
 abbrev pub demoWord : List ℕ
 demoWord = 100 ∷ 101 ∷ 109 ∷ 111 ∷ []
 
 abbrev pub textWord : List ℕ
 textWord = 116 ∷ 101 ∷ 120 ∷ 116 ∷ []
+
+abbrev pub jobsWord : List ℕ
+jobsWord = 106 ∷ 111 ∷ 98 ∷ 115 ∷ []
 
 abbrev pub helpWord : List ℕ
 helpWord = 104 ∷ 101 ∷ 108 ∷ 112 ∷ []
@@ -59,10 +62,11 @@ unfoldable pub aloneOf : List ℕ → Asked
 aloneOf w =
     pick (sameBytes w demoWord) Demo
     (pick (sameBytes w textWord) Text
+    (pick (sameBytes w jobsWord) Jobs
     (pick (sameBytes w partsWord) Parts
     (pick (sameBytes w versionWord) Version
     (pick (sameBytes w helpWord || sameBytes w helpFlag) Help
-    Wrong))))
+    Wrong)))))
 
 -- an argument that begins with a dash is no folder and no file
 unfoldable pub dashed : List ℕ → Bool
@@ -74,9 +78,11 @@ named w =
     pick (sameBytes w newWord) New
     (pick (sameBytes w runWord) Run
     (pick (sameBytes w explainWord) Explain
+    (pick (sameBytes w textWord) TextOn
+    (pick (sameBytes w jobsWord) JobsOn
     (pick (sameBytes w pageWord) Page
     (pick (sameBytes w checkWord) Check
-    Wrong))))
+    Wrong))))))
 
 -- a word with another after it: a folder, a file, -d or --help
 unfoldable pub withOneOf : List ℕ → List ℕ → Asked
@@ -111,7 +117,10 @@ mayOf NewFrom = mayMake
 mayOf Run = mayStore
 mayOf Explain = mayNothing
 mayOf Text = mayNothing
+mayOf TextOn = mayNothing
 mayOf Back = mayNothing
+mayOf Jobs = mayNothing
+mayOf JobsOn = mayNothing
 mayOf Page = mayNothing
 mayOf Check = mayNothing
 mayOf Parts = mayNothing

@@ -13,8 +13,14 @@ pub enum Asked {
     Explain,
     // text to trace
     Text,
+    // with jobs on a part
+    TextOn,
     // trace to text
     Back,
+    // a trace as jobs
+    Jobs,
+    // on a part
+    JobsOn,
     Page,
     // an answer to ECh
     Check,
@@ -52,6 +58,7 @@ pub fn alone(w: &[u8]) -> Asked
     let a = pick_asked(help, Asked::Help, Asked::Wrong);
     let a = pick_asked(is_word(w, b"version"), Asked::Version, a);
     let a = pick_asked(is_word(w, b"parts"), Asked::Parts, a);
+    let a = pick_asked(is_word(w, b"jobs"), Asked::Jobs, a);
     let a = pick_asked(is_word(w, b"text"), Asked::Text, a);
     pick_asked(is_word(w, b"demo"), Asked::Demo, a)
 }
@@ -69,6 +76,8 @@ pub fn named(w: &[u8]) -> Asked
 {
     let a = pick_asked(is_word(w, b"check"), Asked::Check, Asked::Wrong);
     let a = pick_asked(is_word(w, b"page"), Asked::Page, a);
+    let a = pick_asked(is_word(w, b"jobs"), Asked::JobsOn, a);
+    let a = pick_asked(is_word(w, b"text"), Asked::TextOn, a);
     let a = pick_asked(is_word(w, b"explain"), Asked::Explain, a);
     let a = pick_asked(is_word(w, b"run"), Asked::Run, a);
     pick_asked(is_word(w, b"new"), Asked::New, a)
@@ -105,7 +114,10 @@ pub fn allowed(asked: Asked) -> May
         Asked::Run => may_store(),
         Asked::Explain => may_nothing(),
         Asked::Text => may_nothing(),
+        Asked::TextOn => may_nothing(),
         Asked::Back => may_nothing(),
+        Asked::Jobs => may_nothing(),
+        Asked::JobsOn => may_nothing(),
         Asked::Page => may_nothing(),
         Asked::Check => may_nothing(),
         Asked::Parts => may_nothing(),

@@ -58,6 +58,27 @@ pub fn one_more(fd: i32) -> isize {
     libc::read(fd, &mut more)
 }
 
+// All of an input: whether it was read and is held, and how long it is.
+pub struct Input {
+    pub good: bool,
+    pub n: usize,
+}
+
+// An input into a slice that holds it. One that is longer is refused in words that name its kind and what holds more.
+pub fn read_input(input: i32, whole: &mut [u8], kind: &[u8], instead: &[u8]) -> Input {
+    let n = io::read_full(input, whole);
+    let more = one_more(input);
+    if more < 0 {
+        failed(b"standard input");
+        return Input { good: false, n: 0 };
+    }
+    if 0 < more {
+        complain(b"standard input", kind, whole.len(), instead);
+        return Input { good: false, n: 0 };
+    }
+    Input { good: true, n }
+}
+
 fn read_due(fd: i32, path: &[u8], dst: &mut [u8], due: usize) -> bool {
     let m = count(due, dst);
     let got = io::read_full(fd, &mut dst[..m]);

@@ -20,13 +20,16 @@ use nib_print::pen::flush;
 use nib_print::pen::text;
 use nib_print::say::power_sentence;
 use nib_print::say::with_number;
+use nib_sizes::Known;
 use nib_sizes::Lengths;
 use nib_sizes::Plan;
+use nib_sizes::known_part;
 use nib_sizes::plan_of;
 use power::PowerRefusal;
 use power::Powered;
 use power::power_on;
 use slices::copy;
+use target::Geometry;
 use target::Target;
 use trace::run;
 
@@ -533,6 +536,53 @@ fn page_of(dir: &[u8], page: &mut Page) -> Part {
     let mut path = [0u8; 4096];
     let n = join(&mut path, dir, b"page");
     read_page(&path[..n], page)
+}
+
+// A part's sizes alone, for who only speaks of it: it may be larger than nib holds. Not good where there is none.
+pub struct Shape {
+    pub good: bool,
+    pub geometry: Geometry,
+}
+
+pub fn no_shape() -> Shape {
+    let geometry = Geometry {
+        bytes: 0,
+        spare: 0,
+        pages: 0,
+        blocks: 0,
+        luns: 0,
+        programs: 0,
+    };
+    Shape {
+        good: false,
+        geometry,
+    }
+}
+
+fn shape_in(path: &[u8], page: &[u8]) -> Shape {
+    let k = known_part(page);
+    match k {
+        Known::Part(geometry) => Shape {
+            good: true,
+            geometry,
+        },
+        Known::Refused(why) => {
+            refuse_page(path, why, page);
+            no_shape()
+        }
+    }
+}
+
+// The sizes of a folder's part, from its page; where there are none, a line says why.
+pub fn shape_of(dir: &[u8]) -> Shape {
+    let mut path = [0u8; 4096];
+    let mut page = [0u8; 256];
+    let n = join(&mut path, dir, b"page");
+    if page_in(&path[..n], &mut page) {
+        shape_in(&path[..n], &page)
+    } else {
+        no_shape()
+    }
 }
 
 // The folder's files into the buffers.

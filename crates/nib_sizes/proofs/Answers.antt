@@ -18,14 +18,16 @@ use Rattle.power.specs.declared.PowerAnswer.the-variants as answer
 use Rattle.power.specs.Power.{geometryOf, wrongLength, unsigned, crcBad, fieldBad, bufferBad, contentBad, powerAnswer}
 use Rattle.power.proofs.Answers as power
 use Rattle.nib_sizes.specs.declared.Lengths.{Lengths}
+use Rattle.nib_sizes.specs.declared.Known.{Known}
+use Rattle.nib_sizes.specs.declared.Known.the-variants as known
 use Rattle.nib_sizes.specs.declared.Plan.{Plan}
 use Rattle.nib_sizes.specs.declared.Plan.the-variants.{Sizes, Refused, TooLarge}
-use Rattle.nib_sizes.specs.Folder.{lengthsOf, planned, planOf, answerOn, Agrees}
+use Rattle.nib_sizes.specs.Folder.{lengthsOf, planned, planFor, knownOf, planOf, answerOn, Agrees}
 
-pub here : {p : Plan} (b : Bool) (x y : Plan) → b ≡ true → p ≡ x → p ≡ pick b x y
+pub here : {p : Known} (b : Bool) (x y : Known) → b ≡ true → p ≡ x → p ≡ pick b x y
 here b x y h e = rw (h) e
 
-pub later : {p : Plan} (b : Bool) (x y : Plan) → b ≡ false → p ≡ y → p ≡ pick b x y
+pub later : {p : Known} (b : Bool) (x y : Known) → b ≡ false → p ≡ y → p ≡ pick b x y
 later b x y h e = rw (h) e
 
 -- no count and no flag set
@@ -69,16 +71,16 @@ fine page a b c d =
     (power.later _ _ _ (content page) refl))))))
 
 -- along the picks of the plan
-along : (page : List ℕ) (b : Bool) (r : PowerRefusal) (p : Plan) → (b ≡ true → Agrees page (Refused r)) → (b ≡ false → Agrees page p) → Agrees page (pick b (Refused r) p)
-along page true r p h k = h refl
-along page false r p h k = k refl
+along : (page : List ℕ) (b : Bool) (r : PowerRefusal) (k : Known) → (b ≡ true → Agrees page (Refused r)) → (b ≡ false → Agrees page (planFor k)) → Agrees page (planFor (pick b (known.Refused r) k))
+along page true r k h l = h refl
+along page false r k h l = l refl
 
 sizes : (page : List ℕ) (b : Bool) (l : Lengths) → answerOn page l ≡ answer.Accepted → Agrees page (pick b (TooLarge l) (Sizes l))
 sizes page true l h = h
 sizes page false l h = h
 
 pub agrees : (page : List ℕ) → Agrees page (planOf page)
-unfolding planOf planned powerAnswer
+unfolding planOf knownOf planned powerAnswer
 agrees page =
     along page (wrongLength page) _ _ (λ a array registers counts flags. sym (power.here _ _ _ a)) (λ a.
     along page (unsigned page) _ _ (λ b array registers counts flags. sym (power.later _ _ _ a (power.here _ _ _ b))) (λ b.

@@ -1,17 +1,20 @@
 -- What a part folder has to hold. `proofs/Answers.antt` shows that power-on agrees.
 use Prim.Native.Nat.{ℕ, _*_}
 use mathlib.Core.Path.{_≡_}
+use mathlib.Core.Bool.{true}
 use mathlib.Core.List.{List}
 use lib.ListN.{replicate}
 use lib.Dec.{ltb}
 use Rattle.target.specs.Pick.{pick}
-use Rattle.target.specs.Sizes.{pageSize}
+use Rattle.target.specs.Sizes.{pageSize, inLimits}
 use Rattle.target.specs.declared.Geometry.{Geometry}
 use Rattle.power.specs.declared.PowerRefusal.the-variants.{PageLength, Signature, Crc, Field}
 use Rattle.power.specs.Power.{geometryOf, wrongLength, unsigned, crcBad, fieldBad, powerAnswer}
 use Rattle.power.specs.declared.PowerAnswer.{PowerAnswer}
 use Rattle.power.specs.declared.PowerAnswer.the-variants as answer
 use Rattle.nib_sizes.specs.declared.Lengths.{Lengths}
+use Rattle.nib_sizes.specs.declared.Known.{Known}
+use Rattle.nib_sizes.specs.declared.Known.the-variants as known
 use Rattle.nib_sizes.specs.declared.Plan.{Plan}
 use Rattle.nib_sizes.specs.declared.Plan.the-variants.{Sizes, Refused, TooLarge}
 
@@ -28,14 +31,26 @@ lengthsOf g = record {
 unfoldable pub planned : Lengths → Plan
 planned l = pick (ltb 4194304 (l .array)) (TooLarge l) (Sizes l)
 
--- power-on's refusals 20 to 23, lowest first, else the lengths
+-- power-on's refusals 20 to 23, lowest first, else the sizes
+unfoldable pub knownOf : List ℕ → Known
+knownOf page =
+    pick (wrongLength page) (known.Refused PageLength)
+    (pick (unsigned page) (known.Refused Signature)
+    (pick (crcBad page) (known.Refused Crc)
+    (pick (fieldBad page) (known.Refused Field)
+    (known.Part (geometryOf page)))))
+
+-- a part that is known is within the limits
+abbrev pub Limited : Known → Type 0
+Limited (known.Part g) = inLimits g ≡ true
+Limited (known.Refused r) = Unit
+
+abbrev pub planFor : Known → Plan
+planFor (known.Part g) = planned (lengthsOf g)
+planFor (known.Refused r) = Refused r
+
 unfoldable pub planOf : List ℕ → Plan
-planOf page =
-    pick (wrongLength page) (Refused PageLength)
-    (pick (unsigned page) (Refused Signature)
-    (pick (crcBad page) (Refused Crc)
-    (pick (fieldBad page) (Refused Field)
-    (planned (lengthsOf (geometryOf page))))))
+planOf page = planFor (knownOf page)
 
 -- what power-on answers on a folder of these lengths with no count and no flag set
 unfoldable pub answerOn : List ℕ → Lengths → PowerAnswer

@@ -9,7 +9,7 @@ use target::sizes::page_size;
 ghost use mathlib.Core.Path.{_≡_};
 ghost use mathlib.Core.Bool.{true};
 ghost use Rattle.target.specs.Sizes.{inLimits};
-ghost use Rattle.nib_sizes.specs.Folder.{lengthsOf, planned, planOf};
+ghost use Rattle.nib_sizes.specs.Folder.{lengthsOf, planned, knownOf, Limited, planOf};
 
 pub struct Lengths {
     pub array: usize,
@@ -18,10 +18,16 @@ pub struct Lengths {
     pub flags: usize,
 }
 
+// What a page says of its part.
+pub enum Known {
+    Part(Geometry),
+    // what power-on refuses whatever the buffers are: 20 to 23
+    Refused(PowerRefusal),
+}
+
 // What a page says of its folder.
 pub enum Plan {
     Sizes(Lengths),
-    // what power-on refuses whatever the buffers are: 20 to 23
     Refused(PowerRefusal),
     // an array of more than 4 MiB, which a program with no heap doesn't hold
     TooLarge(Lengths),
@@ -53,20 +59,32 @@ pub fn planned(l: Lengths) -> Plan
     }
 }
 
+// The part that a page describes.
+pub fn known_part(page: &[u8]) -> Known
+    ensures { λ r. ⌜ r ≡ knownOf (now (page .entry)) ⌝ }
+    ensures { λ r. ⌜ Limited r ⌝ }
+{
+    if !(page.len() == 256) {
+        return Known::Refused(PowerRefusal::PageLength);
+    }
+    if !is_signed(page) {
+        return Known::Refused(PowerRefusal::Signature);
+    }
+    if !crc_good(page) {
+        return Known::Refused(PowerRefusal::Crc);
+    }
+    if !fields_in_limits(page) {
+        return Known::Refused(PowerRefusal::Field);
+    }
+    Known::Part(geometry_of(page))
+}
+
 pub fn plan_of(page: &[u8]) -> Plan
     ensures { λ r. ⌜ r ≡ planOf (now (page .entry)) ⌝ }
 {
-    if !(page.len() == 256) {
-        return Plan::Refused(PowerRefusal::PageLength);
+    let k = known_part(page);
+    match k {
+        Known::Part(g) => planned(lengths_of(g)),
+        Known::Refused(why) => Plan::Refused(why),
     }
-    if !is_signed(page) {
-        return Plan::Refused(PowerRefusal::Signature);
-    }
-    if !crc_good(page) {
-        return Plan::Refused(PowerRefusal::Crc);
-    }
-    if !fields_in_limits(page) {
-        return Plan::Refused(PowerRefusal::Field);
-    }
-    planned(lengths_of(geometry_of(page)))
 }

@@ -1,8 +1,15 @@
 -- How far a text or a trace has come, as one number, and what a byte of a text says, as one number. 0 is where both begin.
-use Prim.Native.Nat.{ℕ, _+_, _*_, _/_, _%_}
+use Prim.Native.Nat.{ℕ, _+_, _-_, _*_, _/_, _%_}
 use mathlib.Core.Bool.{Bool, true, false, _&&_, not}
-use lib.Dec.{eqb}
+use lib.Dec.{eqb, ltb}
 use Rattle.target.specs.Pick.{pick}
+use Rattle.target.specs.declared.Geometry.{Geometry}
+use Rattle.jobs.specs.declared.reading.First.{First}
+use Rattle.jobs.specs.declared.reading.First.the-variants as first
+use Rattle.nib_places.specs.Places.{onPart}
+use Rattle.nib_text.specs.JobWords.{jobNumber, asksNumber}
+use Rattle.nib_text.specs.declared.job_words.Asks.{Asks}
+use Rattle.nib_text.specs.declared.job_words.Asks.the-variants as asks
 use Rattle.nib_text.specs.Kinds.{kindNumber}
 use Rattle.nib_text.specs.Reading.{nextOf, isGap}
 use Rattle.nib_text.specs.Writing.{wroteNext, wroteOdd}
@@ -34,6 +41,28 @@ kindOf n =
     (pick (eqb n 7) Raw
     Nothing))))))
 
+unfoldable pub firstOf : ℕ → First
+firstOf n =
+    pick (eqb n 1) first.Read
+    (pick (eqb n 2) first.ReadOut
+    (pick (eqb n 3) first.Program
+    (pick (eqb n 4) first.Erase
+    (pick (eqb n 5) first.Status
+    first.Nothing))))
+
+unfoldable pub asksOf : ℕ → Asks
+asksOf n =
+    pick (eqb n 1) asks.Lun
+    (pick (eqb n 2) asks.Block
+    (pick (eqb n 3) asks.Page
+    (pick (eqb n 4) asks.Column
+    (pick (eqb n 5) asks.Count
+    (pick (eqb n 6) asks.Byte
+    asks.Nothing)))))
+
+-- from the lowest bit on: comment, due, no hex digits, no decimal digits, 3 bits the letter, 2 the word's length, 8 its first
+-- byte, 8 its last two as hex digits, 20 its number, whether a part is given, 5 how much of a job's word it is, 3 how many of the
+-- job's values have come, 3 the job
 unfoldable pub readingOf : ℕ → Reading
 readingOf n = record {
   comment = eqb (n % 2) 1;
@@ -44,16 +73,21 @@ readingOf n = record {
     first = n / 512 % 256;
     hex = n / 131072 % 256;
     hexed = eqb (n / 4 % 2) 0;
-    number = n / 33554432;
+    number = n / 33554432 % 1048576;
     numbered = eqb (n / 8 % 2) 0;
+    name = n / 70368744177664 % 32;
   };
+  part = eqb (n / 35184372088832 % 2) 1;
+  job = firstOf (n / 18014398509481984 % 8);
+  got = n / 2251799813685248 % 8;
 }
 
 unfoldable pub readingNumber : Reading → ℕ
 readingNumber r =
     bit (r .comment) + bit (r .due) * 2 + bit (not (r .word .hexed)) * 4 + bit (not (r .word .numbered)) * 8
     + kindNumber (r .kind) * 16 + r .word .length * 128 + r .word .first * 512 + r .word .hex * 131072
-    + r .word .number % 1048576 * 33554432
+    + r .word .number % 1048576 * 33554432 + bit (r .part) * 35184372088832 + r .word .name % 32 * 70368744177664
+    + r .got % 8 * 2251799813685248 + jobNumber (r .job) * 18014398509481984
 
 abbrev pub wrongNumber : Wrong → ℕ
 wrongNumber wrong.NoLetter = 1
@@ -61,6 +95,13 @@ wrongNumber wrong.NoValue = 2
 wrongNumber wrong.NotByte = 3
 wrongNumber wrong.NotNumber = 4
 wrongNumber wrong.Early = 5
+wrongNumber wrong.NoPart = 6
+wrongNumber wrong.TooFew = 7
+wrongNumber wrong.TooMany = 8
+wrongNumber wrong.NoLun = 9
+wrongNumber wrong.NoBlock = 10
+wrongNumber wrong.NoPage = 11
+wrongNumber wrong.NoColumn = 12
 
 unfoldable pub wrongOf : ℕ → Wrong
 wrongOf n =
@@ -68,13 +109,21 @@ wrongOf n =
     (pick (eqb n 2) wrong.NoValue
     (pick (eqb n 3) wrong.NotByte
     (pick (eqb n 4) wrong.NotNumber
-    wrong.Early)))
+    (pick (eqb n 6) wrong.NoPart
+    (pick (eqb n 7) wrong.TooFew
+    (pick (eqb n 8) wrong.TooMany
+    (pick (eqb n 9) wrong.NoLun
+    (pick (eqb n 10) wrong.NoBlock
+    (pick (eqb n 11) wrong.NoPage
+    (pick (eqb n 12) wrong.NoColumn
+    wrong.Early))))))))))
 
 abbrev pub saidNumber : Said → ℕ
 saidNumber said.Nothing = 0
 saidNumber (said.Record k v) = 65536 + k * 256 + v
 saidNumber (said.Byte b) = 131072 + b
 saidNumber (said.Outs n) = 196608 + n % 65536
+saidNumber (said.Value a n) = 262144 + asksNumber a * 65536 + n % 65536
 saidNumber (said.Wrong w) = 262144 + wrongNumber w
 
 unfoldable pub writingOf : ℕ → Writing
@@ -88,6 +137,20 @@ textNext s b = readingNumber (nextOf (readingOf s) b .reading)
 
 unfoldable pub textSaid : ℕ → ℕ → ℕ
 textSaid s b = saidNumber (nextOf (readingOf s) b .said)
+
+-- the job that ends with the byte
+unfoldable pub textJob : ℕ → ℕ → ℕ
+textJob s b = jobNumber (nextOf (readingOf s) b .whole)
+
+-- a part by its sizes; columns are the page size P
+abbrev pub sizes : ℕ → ℕ → ℕ → ℕ → Geometry
+sizes luns blocks pages columns = record { bytes = columns; spare = 0; pages = pages; blocks = blocks; luns = luns; programs = 0 }
+
+-- what a byte says, on a part: 5 to 10 times 65,536 are a job's values
+unfoldable pub saidOn : ℕ → Geometry → ℕ
+saidOn s g =
+    pick (ltb 4 (s / 65536) && ltb (s / 65536) 11) (saidNumber (onPart g (said.Value (asksOf (s / 65536 - 4)) (s % 65536))))
+    s
 
 unfoldable pub textBegins : ℕ → ℕ → ℕ
 textBegins s b = bit (eqb (readingOf s .word .length) 0 && not (readingOf s .comment) && not (isGap b))

@@ -1,5 +1,11 @@
 // How far a text or a trace has come, as one number; and what a byte said, as one number.
+use jobs::reading::First;
 use nib_text::Kind;
+use nib_text::job_words::Asks;
+use nib_text::job_words::asks_number;
+use nib_text::job_words::job_number;
+use nib_text::job_words::pick_asks;
+use nib_text::job_words::pick_first;
 use nib_text::kind_number;
 use nib_text::pick_kind;
 use nib_text::reading::Reading;
@@ -8,7 +14,8 @@ use nib_text::reading::Word;
 use nib_text::reading::Wrong;
 use nib_text::writing::Writing;
 ghost use mathlib.Core.Path.{_≡_};
-ghost use Rattle.nib_speech.specs.Speech.{bit, kindOf, readingOf, readingNumber, wrongNumber, wrongOf, saidNumber, writingOf, writingNumber};
+ghost use Rattle.target.specs.Pick.{pick};
+ghost use Rattle.nib_speech.specs.Speech.{bit, kindOf, firstOf, asksOf, readingOf, readingNumber, wrongNumber, wrongOf, saidNumber, writingOf, writingNumber};
 
 pub fn set_bit(b: bool) -> u8
     ensures { λ r. ⌜ r ≡ bit b ⌝ }
@@ -28,6 +35,29 @@ pub fn kind_of(n: u64) -> Kind
     pick_kind(n == 1, Kind::Command, k)
 }
 
+// The job of a number.
+pub fn first_of(n: u64) -> First
+    ensures { λ r. ⌜ r ≡ firstOf n ⌝ }
+{
+    let f = pick_first(n == 5, First::Status, First::Nothing);
+    let f = pick_first(n == 4, First::Erase, f);
+    let f = pick_first(n == 3, First::Program, f);
+    let f = pick_first(n == 2, First::ReadOut, f);
+    pick_first(n == 1, First::Read, f)
+}
+
+// What a job's value is, of a number.
+pub fn asks_of(n: u64) -> Asks
+    ensures { λ r. ⌜ r ≡ asksOf n ⌝ }
+{
+    let a = pick_asks(n == 6, Asks::Byte, Asks::Nothing);
+    let a = pick_asks(n == 5, Asks::Count, a);
+    let a = pick_asks(n == 4, Asks::Column, a);
+    let a = pick_asks(n == 3, Asks::Page, a);
+    let a = pick_asks(n == 2, Asks::Block, a);
+    pick_asks(n == 1, Asks::Lun, a)
+}
+
 pub fn reading_of(n: u64) -> Reading
     ensures { λ r. ⌜ r ≡ readingOf n ⌝ }
 {
@@ -36,15 +66,20 @@ pub fn reading_of(n: u64) -> Reading
         first: (n / 512 % 256) as u8,
         hex: (n / 131072 % 256) as u8,
         hexed: n / 4 % 2 == 0,
-        number: (n / 33554432) as usize,
+        number: (n / 33554432 % 1048576) as usize,
         numbered: n / 8 % 2 == 0,
+        name: (n / 70368744177664 % 32) as u8,
     };
     let kind = kind_of(n / 16 % 8);
+    let job = first_of(n / 18014398509481984 % 8);
     Reading {
         comment: n % 2 == 1,
         kind,
         due: n / 2 % 2 == 1,
         word,
+        part: n / 35184372088832 % 2 == 1,
+        job,
+        got: (n / 2251799813685248 % 8) as u8,
     }
 }
 
@@ -53,6 +88,7 @@ pub fn reading_number(r: Reading) -> u64
 {
     let w = r.word;
     let k = r.kind;
+    let job = r.job;
     set_bit(r.comment) as u64
         + (set_bit(r.due) as u64) * 2
         + (set_bit(!w.hexed) as u64) * 4
@@ -62,6 +98,10 @@ pub fn reading_number(r: Reading) -> u64
         + (w.first as u64) * 512
         + (w.hex as u64) * 131072
         + (w.number as u64) % 1048576 * 33554432
+        + (set_bit(r.part) as u64) * 35184372088832
+        + (w.name as u64) % 32 * 70368744177664
+        + (r.got as u64) % 8 * 2251799813685248
+        + (job_number(job) as u64) * 18014398509481984
 }
 
 pub fn wrong_number(w: Wrong) -> u8
@@ -73,23 +113,36 @@ pub fn wrong_number(w: Wrong) -> u8
         Wrong::NotByte => 3,
         Wrong::NotNumber => 4,
         Wrong::Early => 5,
+        Wrong::NoPart => 6,
+        Wrong::TooFew => 7,
+        Wrong::TooMany => 8,
+        Wrong::NoLun => 9,
+        Wrong::NoBlock => 10,
+        Wrong::NoPage => 11,
+        Wrong::NoColumn => 12,
     }
+}
+
+fn pick_wrong(b: bool, x: Wrong, y: Wrong) -> Wrong
+    ensures { λ r. ⌜ r ≡ pick b x y ⌝ }
+{
+    if b { x } else { y }
 }
 
 pub fn wrong_of(n: u8) -> Wrong
     ensures { λ w. ⌜ w ≡ wrongOf n ⌝ }
 {
-    if n == 1 {
-        Wrong::NoLetter
-    } else if n == 2 {
-        Wrong::NoValue
-    } else if n == 3 {
-        Wrong::NotByte
-    } else if n == 4 {
-        Wrong::NotNumber
-    } else {
-        Wrong::Early
-    }
+    let w = pick_wrong(n == 12, Wrong::NoColumn, Wrong::Early);
+    let w = pick_wrong(n == 11, Wrong::NoPage, w);
+    let w = pick_wrong(n == 10, Wrong::NoBlock, w);
+    let w = pick_wrong(n == 9, Wrong::NoLun, w);
+    let w = pick_wrong(n == 8, Wrong::TooMany, w);
+    let w = pick_wrong(n == 7, Wrong::TooFew, w);
+    let w = pick_wrong(n == 6, Wrong::NoPart, w);
+    let w = pick_wrong(n == 4, Wrong::NotNumber, w);
+    let w = pick_wrong(n == 3, Wrong::NotByte, w);
+    let w = pick_wrong(n == 2, Wrong::NoValue, w);
+    pick_wrong(n == 1, Wrong::NoLetter, w)
 }
 
 pub fn said_number(s: Said) -> u64
@@ -100,6 +153,9 @@ pub fn said_number(s: Said) -> u64
         Said::Record { kind, value } => 65536 + (kind as u64) * 256 + value as u64,
         Said::Byte(b) => 131072 + b as u64,
         Said::Outs(n) => 196608 + (n as u64) % 65536,
+        Said::Value { of, number } => {
+            262144 + (asks_number(of) as u64) * 65536 + (number as u64) % 65536
+        }
         Said::Wrong(w) => 262144 + wrong_number(w) as u64,
     }
 }

@@ -3,7 +3,11 @@ use Prim.Native.Nat.{ℕ, _+_, _-_, _*_, _%_}
 use mathlib.Core.Bool.{Bool, true, false, _&&_, _||_, not}
 use lib.Dec.{eqb, ltb}
 use Rattle.target.specs.Pick.{pick}
+use Rattle.jobs.specs.declared.reading.First.{First}
+use Rattle.jobs.specs.declared.reading.First.the-variants as first
 use Rattle.nib_text.specs.Kinds.{sameKind}
+use Rattle.nib_text.specs.JobWords.{isJob, nameBegun, nameNext, jobNamed, asksNumber, wants, asksOf}
+use Rattle.nib_text.specs.declared.job_words.Asks.{Asks}
 use Rattle.nib_text.specs.declared.Kind.{Kind}
 use Rattle.nib_text.specs.declared.Kind.the-variants.{Nothing, Command, Address, DataIn, DataOut, Finish, Protect, Raw}
 use Rattle.nib_text.specs.declared.reading.Word.{Word}
@@ -52,7 +56,7 @@ abbrev pub tenfold : ℕ → ℕ → ℕ
 tenfold n d = pick (ltb n 100000) (n * 10 + d) n
 
 abbrev pub noWord : Word
-noWord = record { length = 0; first = 0; hex = 0; hexed = true; number = 0; numbered = true }
+noWord = record { length = 0; first = 0; hex = 0; hexed = true; number = 0; numbered = true; name = 0 }
 
 -- a word with one byte more
 unfoldable pub grown : Word → ℕ → Word
@@ -63,11 +67,16 @@ grown w b = record {
   hexed = w .hexed && ltb (hexValue b) 16;
   number = tenfold (w .number) (hexValue b);
   numbered = w .numbered && ltb (hexValue b) 10;
+  name = pick (eqb (w .length) 0) (nameBegun b) (nameNext (w .name) b);
 }
 
 -- one byte that is a letter
 unfoldable pub isLetter : Word → Bool
 isLetter w = eqb (w .length) 1 && not (sameKind (letterOf (w .first)) Nothing)
+
+-- a letter, or a job's word
+unfoldable pub isHead : Word → Bool
+isHead w = isLetter w || isJob (jobNamed (w .name))
 
 -- two hex digits; a number below 256; a count below 65,536
 unfoldable pub isByte : Word → Bool
@@ -102,53 +111,98 @@ valueSaid Finish w = numberSaid 4 w
 valueSaid Protect w = numberSaid 5 w
 valueSaid Raw w = rawSaid w
 
--- a letter where a value is wanted is wrong; no word says nothing
-unfoldable pub wordSaid : Kind → Bool → Word → Said
-wordSaid k due w =
-    pick (eqb (w .length) 0) said.Nothing
-    (pick (isLetter w) (pick due (said.Wrong wrong.Early) said.Nothing)
-    (valueSaid k w))
+-- a job's value: a decimal number, or a program's byte
+unfoldable pub jobSaid : Asks → Word → Said
+jobSaid a w =
+    pick (wants a) (pick (isCount w) (said.Value a (w .number)) (said.Wrong wrong.NotNumber))
+    (pick (eqb (asksNumber a) 6) (pick (isByte w) (said.Value a (w .hex)) (said.Wrong wrong.NotByte))
+    (said.Wrong wrong.TooMany))
 
-unfoldable pub wordKind : Kind → Word → Kind
-wordKind k w = pick (isLetter w) (letterOf (w .first)) k
+-- a letter or a job's word says nothing by itself. It is wrong where a value is wanted, and a job's word where no part is given
+unfoldable pub headSaid : Reading → Said
+headSaid r =
+    pick (r .due) (pick (isJob (r .job)) (said.Wrong wrong.TooFew) (said.Wrong wrong.Early))
+    (pick (isJob (jobNamed (r .word .name)) && not (r .part)) (said.Wrong wrong.NoPart) said.Nothing)
 
-unfoldable pub wordDue : Bool → Word → Bool
-wordDue due w = pick (eqb (w .length) 0) due (isLetter w)
+-- no word says nothing
+unfoldable pub wordSaid : Reading → Said
+wordSaid r =
+    pick (eqb (r .word .length) 0) said.Nothing
+    (pick (isHead (r .word)) (headSaid r)
+    (pick (isJob (r .job)) (jobSaid (asksOf (r .job) (r .got)) (r .word))
+    (valueSaid (r .kind) (r .word))))
 
--- the word ends; where the line ends too, no letter counts any more, and one with no value is wrong. A second letter is told of first
+-- the letter, or the job and how many of its values have come, after the word
+unfoldable pub wordKind : Reading → Kind
+wordKind r = pick (isHead (r .word)) (pick (isLetter (r .word)) (letterOf (r .word .first)) Nothing) (r .kind)
+
+unfoldable pub wordJob : Reading → First
+wordJob r = pick (isHead (r .word)) (jobNamed (r .word .name)) (r .job)
+
+abbrev pub oneMore : ℕ → ℕ
+oneMore got = pick (ltb got 4) (got + 1) got
+
+unfoldable pub wordGot : Reading → ℕ
+wordGot r = pick (isHead (r .word)) 0 (pick (eqb (r .word .length) 0) (r .got) (oneMore (r .got)))
+
+-- a value has to come after the word
+unfoldable pub wordDue : Reading → Bool
+wordDue r =
+    pick (eqb (r .word .length) 0) (r .due)
+    (isHead (r .word) || wants (asksOf (wordJob r) (wordGot r)))
+
+abbrev pub isWrong : Said → Bool
+isWrong said.Nothing = false
+isWrong (said.Record k v) = false
+isWrong (said.Byte b) = false
+isWrong (said.Outs n) = false
+isWrong (said.Value a n) = false
+isWrong (said.Wrong w) = true
+
+-- a line that ends too early; what is wrong with its last word is told of first
+unfoldable pub lateSaid : Bool → First → Said → Said
+lateSaid late job s =
+    pick (late && not (isWrong s)) (pick (isJob job) (said.Wrong wrong.TooFew) (said.Wrong wrong.NoValue)) s
+
+-- the word ends; where the line ends too, no letter and no job counts any more. A job ends there, or at the next letter or
+-- job's word
 unfoldable pub ended : Reading → ℕ → Read
 ended r b = record {
   reading = record {
     comment = eqb b 35;
-    kind = pick (endsLine b) Nothing (wordKind (r .kind) (r .word));
-    due = wordDue (r .due) (r .word) && not (endsLine b);
+    kind = pick (endsLine b) Nothing (wordKind r);
+    due = wordDue r && not (endsLine b);
     word = noWord;
+    part = r .part;
+    job = pick (endsLine b) first.Nothing (wordJob r);
+    got = pick (endsLine b) 0 (wordGot r);
   };
-  said =
-      pick (endsLine b && wordDue (r .due) (r .word) && not (r .due && isLetter (r .word))) (said.Wrong wrong.NoValue)
-      (wordSaid (r .kind) (r .due) (r .word));
+  said = lateSaid (endsLine b && wordDue r) (wordJob r) (wordSaid r);
+  whole = pick (endsLine b || isHead (r .word)) (r .job) first.Nothing;
 }
 
 -- a comment goes to the line end
 unfoldable pub passed : Reading → ℕ → Read
 passed r b = record {
-  reading = record { comment = not (eqb b 10); kind = r .kind; due = r .due; word = r .word };
+  reading = record { comment = not (eqb b 10); kind = r .kind; due = r .due; word = r .word; part = r .part; job = r .job; got = r .got };
   said = said.Nothing;
+  whole = first.Nothing;
 }
 
 abbrev pub inside : Reading → ℕ → Read
 inside r b = record {
-  reading = record { comment = r .comment; kind = r .kind; due = r .due; word = grown (r .word) b };
+  reading = record { comment = r .comment; kind = r .kind; due = r .due; word = grown (r .word) b; part = r .part; job = r .job; got = r .got };
   said = said.Nothing;
+  whole = first.Nothing;
 }
 
 -- one byte of text
 unfoldable pub nextOf : Reading → ℕ → Read
 nextOf r b = pick (r .comment) (passed r b) (pick (isGap b) (ended r b) (inside r b))
 
--- where a text begins. A text ends as if a line end came after it
-unfoldable pub begun : Reading
-begun = record { comment = false; kind = Nothing; due = false; word = noWord }
+-- where a text begins, with a part or without. A text ends as if a line end came after it
+unfoldable pub begun : Bool → Reading
+begun part = record { comment = false; kind = Nothing; due = false; word = noWord; part = part; job = first.Nothing; got = 0 }
 
 -- where a text stands, for whoever has to find a word: lines and places are counted from 1
 abbrev pub up : ℕ → ℕ

@@ -1,7 +1,8 @@
 // A trace as people write it, one byte of text at a time: what a text means (`reading`), and a trace back as text (`writing`).
 // All by value, with no `requires`. A text is lines of words; `#` begins a comment. A letter says what the values after it
 // are: c commands, a addresses, d data in, x bytes as they are, each of two hex digits; o a count of data outs, f the number of
-// a LUN that finishes, p the level of the protect line, each in decimal.
+// a LUN that finishes, p the level of the protect line, each in decimal. A word of `job_words` says a whole job.
+pub mod job_words;
 pub mod reading;
 pub mod writing;
 

@@ -1,12 +1,23 @@
 // What a text means.
 use crate::Kind;
+use crate::job_words::Asks;
+use crate::job_words::asks_number;
+use crate::job_words::asks_of;
+use crate::job_words::is_job;
+use crate::job_words::job_named;
+use crate::job_words::name_begun;
+use crate::job_words::name_next;
+use crate::job_words::pick_first;
+use crate::job_words::wants;
 use crate::pick_kind;
 use crate::same_kind;
+use jobs::reading::First;
 use target::picks::pick_bool;
+use target::picks::pick_byte;
 use target::picks::pick_number;
 ghost use mathlib.Core.Path.{_≡_};
 ghost use Rattle.target.specs.Pick.{pick};
-ghost use Rattle.nib_text.specs.Reading.{hexValue, letterOf, isGap, endsLine, more, tenfold, noWord, grown, isLetter, isByte, isNumber, isCount, byteSaid, numberSaid, countSaid, rawSaid, valueSaid, wordSaid, wordKind, wordDue, ended, passed, nextOf, begun, up, spotNext, spotBegun};
+ghost use Rattle.nib_text.specs.Reading.{hexValue, letterOf, isGap, endsLine, more, tenfold, noWord, grown, isLetter, isHead, isByte, isNumber, isCount, byteSaid, numberSaid, countSaid, rawSaid, valueSaid, jobSaid, headSaid, wordSaid, wordKind, wordJob, oneMore, wordGot, wordDue, isWrong, lateSaid, ended, passed, nextOf, begun, up, spotNext, spotBegun};
 
 // The word under way.
 pub struct Word {
@@ -19,15 +30,22 @@ pub struct Word {
     // its bytes as decimal digits, and whether every byte is one
     pub number: usize,
     pub numbered: bool,
+    // how much of a job's word it is
+    pub name: u8,
 }
 
 pub struct Reading {
     pub comment: bool,
     // the letter that counts
     pub kind: Kind,
-    // it has no value yet
+    // it has no value yet, or the job wants one more
     pub due: bool,
     pub word: Word,
+    // a part is given, so that jobs are taken
+    pub part: bool,
+    // the job whose values come, in the letter's place, and how many have come
+    pub job: First,
+    pub got: u8,
 }
 
 pub enum Wrong {
@@ -39,8 +57,19 @@ pub enum Wrong {
     NotByte,
     // not a decimal number, or too large
     NotNumber,
-    // a letter where the one before it wants a value
+    // a letter or a job's word where the letter before it wants a value
     Early,
+    // a job's word, and no part is given
+    NoPart,
+    // a job ends that wants more values
+    TooFew,
+    // a value more than the job takes
+    TooMany,
+    // the part has no such place; `nib_places` says which
+    NoLun,
+    NoBlock,
+    NoPage,
+    NoColumn,
 }
 
 // What a byte of text adds to the trace.
@@ -49,12 +78,16 @@ pub enum Said {
     Record { kind: u8, value: u8 },
     Byte(u8),
     Outs(usize),
+    // a value of the job whose words come
+    Value { of: Asks, number: usize },
     Wrong(Wrong),
 }
 
 pub struct Read {
     pub reading: Reading,
     pub said: Said,
+    // the job that ends here, with what is said as its last value. Where the word is wrong it means nothing
+    pub whole: First,
 }
 
 // Where a text stands: the line and the place of its next byte, and where its last word begins.
@@ -145,6 +178,7 @@ pub fn no_word() -> Word
         hexed: true,
         number: 0,
         numbered: true,
+        name: 0,
     }
 }
 
@@ -153,7 +187,8 @@ pub fn grown(w: Word, b: u8) -> Word
     ensures { λ r. ⌜ r ≡ grown w b ⌝ }
 {
     let d = hex_value(b);
-    let first = target::picks::pick_byte(w.length == 0, b, w.first);
+    let first = pick_byte(w.length == 0, b, w.first);
+    let name = pick_byte(w.length == 0, name_begun(b), name_next(w.name, b));
     Word {
         length: more(w.length),
         first,
@@ -161,6 +196,7 @@ pub fn grown(w: Word, b: u8) -> Word
         hexed: w.hexed & (d < 16),
         number: tenfold(w.number, d),
         numbered: w.numbered & (d < 10),
+        name,
     }
 }
 
@@ -168,6 +204,13 @@ pub fn is_letter(w: Word) -> bool
     ensures { λ r. ⌜ r ≡ isLetter w ⌝ }
 {
     (w.length == 1) & !same_kind(letter_of(w.first), Kind::Nothing)
+}
+
+// A letter, or a job's word.
+pub fn is_head(w: Word) -> bool
+    ensures { λ r. ⌜ r ≡ isHead w ⌝ }
+{
+    is_letter(w) | is_job(job_named(w.name))
 }
 
 pub fn is_byte(w: Word) -> bool
@@ -240,50 +283,154 @@ pub fn value_said(k: Kind, w: Word) -> Said
     }
 }
 
-// What a word says where it ends.
-pub fn word_said(k: Kind, due: bool, w: Word) -> Said
-    ensures { λ r. ⌜ r ≡ wordSaid k due w ⌝ }
+// A value of a job.
+pub fn job_said(a: Asks, w: Word) -> Said
+    ensures { λ r. ⌜ r ≡ jobSaid a w ⌝ }
 {
-    let letter = pick_said(due, Said::Wrong(Wrong::Early), Said::Nothing);
-    let s = pick_said(is_letter(w), letter, value_said(k, w));
+    let counted = Said::Value {
+        of: a,
+        number: w.number,
+    };
+    let counted = pick_said(is_count(w), counted, Said::Wrong(Wrong::NotNumber));
+    let given = Said::Value {
+        of: a,
+        number: w.hex as usize,
+    };
+    let given = pick_said(is_byte(w), given, Said::Wrong(Wrong::NotByte));
+    let rest = pick_said(asks_number(a) == 6, given, Said::Wrong(Wrong::TooMany));
+    pick_said(wants(a), counted, rest)
+}
+
+// A letter or a job's word.
+pub fn head_said(r: Reading) -> Said
+    ensures { λ s. ⌜ s ≡ headSaid r ⌝ }
+{
+    let w = r.word;
+    let job = r.job;
+    let late = pick_said(
+        is_job(job),
+        Said::Wrong(Wrong::TooFew),
+        Said::Wrong(Wrong::Early),
+    );
+    let unknown = is_job(job_named(w.name)) & !r.part;
+    let s = pick_said(unknown, Said::Wrong(Wrong::NoPart), Said::Nothing);
+    pick_said(r.due, late, s)
+}
+
+// What a word says where it ends.
+pub fn word_said(r: Reading) -> Said
+    ensures { λ s. ⌜ s ≡ wordSaid r ⌝ }
+{
+    let w = r.word;
+    let k = r.kind;
+    let job = r.job;
+    let value = pick_said(
+        is_job(job),
+        job_said(asks_of(job, r.got), w),
+        value_said(k, w),
+    );
+    let s = pick_said(is_head(w), head_said(r), value);
     pick_said(w.length == 0, Said::Nothing, s)
 }
 
-pub fn word_kind(k: Kind, w: Word) -> Kind
-    ensures { λ r. ⌜ r ≡ wordKind k w ⌝ }
+// The letter that counts after the word.
+pub fn word_kind(r: Reading) -> Kind
+    ensures { λ k. ⌜ k ≡ wordKind r ⌝ }
 {
-    pick_kind(is_letter(w), letter_of(w.first), k)
+    let w = r.word;
+    let k = r.kind;
+    let letter = pick_kind(is_letter(w), letter_of(w.first), Kind::Nothing);
+    pick_kind(is_head(w), letter, k)
 }
 
-pub fn word_due(due: bool, w: Word) -> bool
-    ensures { λ r. ⌜ r ≡ wordDue due w ⌝ }
+// The job whose values come after the word.
+pub fn word_job(r: Reading) -> First
+    ensures { λ f. ⌜ f ≡ wordJob r ⌝ }
 {
-    pick_bool(w.length == 0, due, is_letter(w))
+    let w = r.word;
+    let job = r.job;
+    pick_first(is_head(w), job_named(w.name), job)
+}
+
+// No job has more than four values but a program, whose bytes come after its four.
+pub fn one_more(got: u8) -> u8
+    ensures { λ r. ⌜ r ≡ oneMore got ⌝ }
+{
+    if got < 4 { got + 1 } else { got }
+}
+
+// How many values have come after the word.
+pub fn word_got(r: Reading) -> u8
+    ensures { λ n. ⌜ n ≡ wordGot r ⌝ }
+{
+    let w = r.word;
+    let got = pick_byte(w.length == 0, r.got, one_more(r.got));
+    pick_byte(is_head(w), 0, got)
+}
+
+// A value has to come after the word.
+pub fn word_due(r: Reading) -> bool
+    ensures { λ b. ⌜ b ≡ wordDue r ⌝ }
+{
+    let w = r.word;
+    let asked = wants(asks_of(word_job(r), word_got(r)));
+    pick_bool(w.length == 0, r.due, is_head(w) | asked)
+}
+
+pub fn is_wrong(s: Said) -> bool
+    ensures { λ b. ⌜ b ≡ isWrong s ⌝ }
+{
+    match s {
+        Said::Nothing => false,
+        Said::Record { kind: _, value: _ } => false,
+        Said::Byte(_) => false,
+        Said::Outs(_) => false,
+        Said::Value { of: _, number: _ } => false,
+        Said::Wrong(_) => true,
+    }
+}
+
+// Where a line ends before a value that is due has come. What is wrong with the last word itself is told of first.
+pub fn late_said(late: bool, job: First, s: Said) -> Said
+    ensures { λ r. ⌜ r ≡ lateSaid late job s ⌝ }
+{
+    let why = pick_said(
+        is_job(job),
+        Said::Wrong(Wrong::TooFew),
+        Said::Wrong(Wrong::NoValue),
+    );
+    pick_said(late & !is_wrong(s), why, s)
 }
 
 // A byte that ends a word, and may end the line.
 pub fn ended(r: Reading, b: u8) -> Read
     ensures { λ s. ⌜ s ≡ ended r b ⌝ }
 {
-    let k = r.kind;
     let w = r.word;
+    let open = r.job;
     let ends = ends_line(b);
-    let due = word_due(r.due, w);
-    let kind = pick_kind(ends, Kind::Nothing, word_kind(k, w));
-    let early = r.due & is_letter(w);
-    let said = pick_said(
-        ends & due & !early,
-        Said::Wrong(Wrong::NoValue),
-        word_said(k, r.due, w),
-    );
+    let due = word_due(r);
+    let next = word_job(r);
+    let kind = pick_kind(ends, Kind::Nothing, word_kind(r));
+    let job = pick_first(ends, First::Nothing, next);
+    let got = pick_byte(ends, 0, word_got(r));
+    let said = late_said(ends & due, next, word_said(r));
+    let whole = pick_first(ends | is_head(w), open, First::Nothing);
     let word = no_word();
     let reading = Reading {
         comment: b == b'#',
         kind,
         due: due & !ends,
         word,
+        part: r.part,
+        job,
+        got,
     };
-    Read { reading, said }
+    Read {
+        reading,
+        said,
+        whole,
+    }
 }
 
 // A byte of a comment.
@@ -297,6 +444,7 @@ pub fn passed(r: Reading, b: u8) -> Read
     Read {
         reading,
         said: Said::Nothing,
+        whole: First::Nothing,
     }
 }
 
@@ -310,14 +458,15 @@ pub fn next(r: Reading, b: u8) -> Read
     let inside = Read {
         reading,
         said: Said::Nothing,
+        whole: First::Nothing,
     };
     let s = pick_read(is_gap(b), ended(r, b), inside);
     pick_read(r.comment, passed(r, b), s)
 }
 
-// Where a text begins.
-pub fn begun() -> Reading
-    ensures { λ r. ⌜ r ≡ begun ⌝ }
+// Where a text begins, with a part or without.
+pub fn begun(part: bool) -> Reading
+    ensures { λ r. ⌜ r ≡ begun part ⌝ }
 {
     let word = no_word();
     Reading {
@@ -325,6 +474,9 @@ pub fn begun() -> Reading
         kind: Kind::Nothing,
         due: false,
         word,
+        part,
+        job: First::Nothing,
+        got: 0,
     }
 }
 

@@ -1,8 +1,18 @@
 // A trace from text, and back as text.
+use jobs::Job;
+use jobs::numbers::NamedJob;
+use jobs::writing::Answer;
+use jobs::writing::write;
 use libc::STDERR_FILENO;
 use libc::STDOUT_FILENO;
-use nib_files::files::complain;
-use nib_files::files::one_more;
+use nib_files::files::Input;
+use nib_files::files::read_input;
+use nib_files::part::Shape;
+use nib_places::Values;
+use nib_places::job_of;
+use nib_places::no_values;
+use nib_places::on_part;
+use nib_places::stored;
 use nib_print::input::left;
 use nib_print::input::printable;
 use nib_print::pen::Paper;
@@ -16,11 +26,13 @@ use nib_print::pen::text;
 use nib_print::say::with_number;
 use nib_speech::piece_written;
 use nib_speech::reason;
+use nib_text::job_words::Asks;
 use nib_text::reading::Reading;
 use nib_text::reading::Said;
 use nib_text::reading::Spot;
 use nib_text::reading::begun;
 use nib_text::reading::is_gap;
+use nib_text::reading::is_wrong;
 use nib_text::reading::next;
 use nib_text::reading::spot_begun;
 use nib_text::reading::spot_next;
@@ -29,9 +41,15 @@ use nib_text::writing::writing_begun;
 use nib_text::writing::wrote_end;
 use nib_text::writing::wrote_next;
 use nib_text::writing::wrote_odd;
+use target::Geometry;
 
 // As much of the last word as an error shows.
 pub type Last = [u8; 32];
+
+// A program's bytes, each of two digits and a blank in a text that is held; and a job's records.
+pub type Data = [u8; 350000];
+
+pub type Room = [u8; 700014];
 
 // How far a text has come.
 pub struct Text {
@@ -43,12 +61,19 @@ pub struct Text {
     // nothing is written: the text is only looked at
     pub mute: bool,
     pub going: bool,
+    // the part's sizes, for jobs
+    pub geometry: Geometry,
+    // the values of the job that is read, and how many bytes a program has
+    pub values: Values,
+    pub given: usize,
 }
 
-fn text_begun(mute: bool) -> Text {
-    let reading = begun();
+fn text_begun(mute: bool, part: Shape) -> Text {
+    let reading = begun(part.good);
     let spot = spot_begun();
     let pen = begin(STDOUT_FILENO);
+    let geometry = part.geometry;
+    let values = no_values();
     Text {
         reading,
         spot,
@@ -56,6 +81,9 @@ fn text_begun(mute: bool) -> Text {
         size: 0,
         mute,
         going: true,
+        geometry,
+        values,
+        given: 0,
     }
 }
 
@@ -80,6 +108,7 @@ fn add_said(out: &mut Paper, p: Pen, said: Said) -> Pen {
         }
         Said::Byte(b) => put(out, p, b),
         Said::Outs(n) => outs(out, p, n),
+        Said::Value { of: _, number: _ } => p,
         Said::Wrong(_) => p,
     }
 }
@@ -88,13 +117,69 @@ fn added(out: &mut Paper, p: Pen, mute: bool, said: Said) -> Pen {
     if mute { p } else { add_said(out, p, said) }
 }
 
-fn is_wrong(said: Said) -> bool {
+// A program's byte, kept. There is room for all that a text holds.
+fn keep_given(data: &mut Data, given: usize, number: usize) -> usize {
+    if given < 350000 {
+        data[given] = (number % 256) as u8;
+        given + 1
+    } else {
+        given
+    }
+}
+
+// How many bytes a program has after a value. A job's first value is its LUN.
+fn given_after(data: &mut Data, given: usize, of: Asks, number: usize) -> usize {
+    match of {
+        Asks::Nothing => given,
+        Asks::Lun => 0,
+        Asks::Block => given,
+        Asks::Page => given,
+        Asks::Column => given,
+        Asks::Count => given,
+        Asks::Byte => keep_given(data, given, number),
+    }
+}
+
+// What a job's value adds to the job.
+fn valued(t: Text, said: Said, data: &mut Data) -> Text {
     match said {
-        Said::Nothing => false,
-        Said::Record { kind: _, value: _ } => false,
-        Said::Byte(_) => false,
-        Said::Outs(_) => false,
-        Said::Wrong(_) => true,
+        Said::Nothing => t,
+        Said::Record { kind: _, value: _ } => t,
+        Said::Byte(_) => t,
+        Said::Outs(_) => t,
+        Said::Value { of, number } => {
+            let v = t.values;
+            let values = stored(v, of, number);
+            let given = given_after(data, t.given, of, number);
+            Text { values, given, ..t }
+        }
+        Said::Wrong(_) => t,
+    }
+}
+
+// A job's records, by the writer. On a part's place it is not too wide, and the room is not too small.
+fn write_job(out: &mut Paper, p: Pen, job: Job, bytes: &[u8], room: &mut [u8]) -> Pen {
+    let a = write(job, bytes, room);
+    match a {
+        Answer::TooWide => p,
+        Answer::TooSmall => p,
+        Answer::Written(n) => {
+            let k = count(n, room);
+            text(out, p, &room[..k])
+        }
+    }
+}
+
+fn add_job(out: &mut Paper, p: Pen, job: Job, given: usize, data: &[u8], room: &mut [u8]) -> Pen {
+    let n = count(given, data);
+    write_job(out, p, job, &data[..n], room)
+}
+
+fn add_named(out: &mut Paper, t: Text, named: NamedJob, data: &Data, room: &mut Room) -> Pen {
+    let p = t.pen;
+    match named {
+        NamedJob::Nothing => p,
+        NamedJob::One(job) => add_job(out, p, job, t.given, data, room),
     }
 }
 
@@ -104,6 +189,7 @@ fn reason_said(out: &mut Paper, p: Pen, said: Said) -> Pen {
         Said::Record { kind: _, value: _ } => p,
         Said::Byte(_) => p,
         Said::Outs(_) => p,
+        Said::Value { of: _, number: _ } => p,
         Said::Wrong(why) => reason(out, p, why),
     }
 }
@@ -143,95 +229,122 @@ fn word_size(word: &mut Last, size: usize, r: Reading, b: u8) -> usize {
     if size < 1000000 { size + 1 } else { size }
 }
 
-fn text_byte(t: Text, b: u8, out: &mut Paper, word: &mut Last) -> Text {
+// The word is bad: it is told of, and nothing more is read.
+fn stopped(t: Text, line: usize, word: &Last, said: Said) -> Text {
+    let spot = t.spot;
+    tell_wrong(line, spot, word, t.size, said);
+    Text { going: false, ..t }
+}
+
+fn text_byte(
+    t: Text,
+    b: u8,
+    out: &mut Paper,
+    word: &mut Last,
+    data: &mut Data,
+    room: &mut Room,
+) -> Text {
     if !t.going {
         return t;
     }
     let r = t.reading;
     let s = t.spot;
     let p = t.pen;
+    let g = t.geometry;
     let size = word_size(word, t.size, r, b);
-    let read = next(r, b);
     let spot = spot_next(s, r, b);
-    let said = read.said;
+    let read = next(r, b);
     let reading = read.reading;
+    let whole = read.whole;
+    let told = read.said;
+    let said = on_part(g, told);
     let pen = added(out, p, t.mute, said);
-    let wrong = is_wrong(said);
-    if wrong {
-        tell_wrong(s.line, spot, word, size, said);
-    }
-    Text {
+    let t = Text {
         reading,
         spot,
         pen,
         size,
-        going: !wrong,
         ..t
+    };
+    if is_wrong(said) {
+        return stopped(t, s.line, word, said);
     }
+    let t = valued(t, said, data);
+    if t.mute {
+        return t;
+    }
+    let values = t.values;
+    let pen = add_named(out, t, job_of(g, whole, values), data, room);
+    Text { pen, ..t }
 }
 
-fn text_bytes(from: Text, chunk: &[u8], out: &mut Paper, word: &mut Last) -> Text {
+fn text_bytes(
+    from: Text,
+    chunk: &[u8],
+    out: &mut Paper,
+    word: &mut Last,
+    data: &mut Data,
+    room: &mut Room,
+) -> Text {
     let mut t = from;
     let mut i: usize = 0;
     while i < chunk.len() {
-        t = text_byte(t, chunk[i], out, word);
+        t = text_byte(t, chunk[i], out, word, data, room);
         i += 1;
     }
     t
 }
 
 // The whole text, and the line end that is read after it. Whether every word is good; a bad one is told of.
-fn text_whole(mute: bool, whole: &[u8], out: &mut Paper) -> Text {
+fn text_whole(
+    mute: bool,
+    part: Shape,
+    whole: &[u8],
+    out: &mut Paper,
+    data: &mut Data,
+    room: &mut Room,
+) -> Text {
     let mut word = [0u8; 32];
-    let t = text_bytes(text_begun(mute), whole, out, &mut word);
-    text_byte(t, b'\n', out, &mut word)
+    let t = text_bytes(text_begun(mute, part), whole, out, &mut word, data, room);
+    text_byte(t, b'\n', out, &mut word, data, room)
 }
 
 // As much text as is held.
 pub type Whole = [u8; 1048576];
 
-// How long the text of an input is; more than is held where it is too long or can't be read, which is told of.
-fn text_length(input: i32, whole: &mut Whole) -> usize {
-    let n = io::read_full(input, whole);
-    let more = one_more(input);
-    if more < 0 {
-        failed(b"standard input");
-        return 1048577;
-    }
-    if 0 < more {
-        complain(
-            b"standard input",
-            b": a text of more than ",
-            1048576,
-            b" bytes; python3 -m nibtoggle text has no such limit\n",
-        );
-        return 1048577;
-    }
-    n
+fn read_text(input: i32, whole: &mut Whole) -> Input {
+    read_input(
+        input,
+        whole,
+        b": a text of more than ",
+        b" bytes; python3 -m nibtoggle text has no such limit\n",
+    )
 }
 
 // Looked at once, and then read.
-fn twice(whole: &[u8], n: usize, out: &mut Paper) {
+fn twice(part: Shape, whole: &[u8], n: usize, out: &mut Paper) {
     let n = count(n, whole);
-    let seen = text_whole(true, &whole[..n], out);
+    let mut data = [0u8; 350000];
+    let mut room = [0u8; 700014];
+    let seen = text_whole(true, part, &whole[..n], out, &mut data, &mut room);
     if seen.going {
-        let t = text_whole(false, &whole[..n], out);
+        let t = text_whole(false, part, &whole[..n], out, &mut data, &mut room);
         let p = t.pen;
         flush(out, p);
     }
 }
 
-fn whole_twice(whole: &Whole, n: usize, out: &mut Paper) {
-    twice(whole, n, out)
+fn whole_twice(part: Shape, whole: &Whole, n: usize, out: &mut Paper) {
+    twice(part, whole, n, out)
 }
 
 // `nib text`. The whole text is looked at before a record is written: where a word is bad there is no trace, so that none is
-// run in part.
-pub fn from_text(input: i32, out: &mut Paper) {
+// run in part. Jobs are taken where a part is known.
+pub fn from_text(part: Shape, input: i32, out: &mut Paper) {
     let mut whole = [0u8; 1048576];
-    let n = text_length(input, &mut whole);
-    if n <= 1048576 {
-        whole_twice(&whole, n, out);
+    let got = read_text(input, &mut whole);
+    if got.good {
+        whole_twice(part, &whole, got.n, out);
     }
 }
 

@@ -28,6 +28,20 @@ fn texts() {
     tried(b"version", Asked::Version, b"", b"", b"look");
 }
 
+fn jobs() {
+    tried(b"text tiny", Asked::TextOn, b"tiny", b"", b"job_script");
+    tried(b"jobs", Asked::Jobs, b"", b"", b"job_trace");
+    tried(b"jobs tiny", Asked::JobsOn, b"tiny", b"", b"job_trace");
+    tried(
+        b"jobs tiny, of what is none",
+        Asked::JobsOn,
+        b"tiny",
+        b"",
+        b"no_jobs",
+    );
+    tried(b"jobs, of nothing", Asked::Jobs, b"", b"", b"nothing");
+}
+
 fn runs() {
     tried(b"explain tiny", Asked::Explain, b"tiny", b"", b"trace");
     tried(b"explain dark", Asked::Explain, b"dark", b"", b"look");
@@ -79,6 +93,7 @@ fn folders() {
 
 fn main() {
     texts();
+    jobs();
     runs();
     pages();
     checks();

@@ -56,6 +56,15 @@ is-word-requires-6 c κs = search needs
 pick-asked-requires-5 : tie.Need-pick-asked-requires-5
 pick-asked-requires-5 c κs = search needs
 
+slice-aggregate-is-word-7 : tie.Need-slice-aggregate-is-word-7
+slice-aggregate-is-word-7 c = search needs
+
+is-word-requires-7 : tie.Need-is-word-requires-7
+is-word-requires-7 c κs = search needs
+
+pick-asked-requires-6 : tie.Need-pick-asked-requires-6
+pick-asked-requires-6 c κs = search needs
+
 returns : tie.Need-returns
 unfolding aloneOf
 returns c =
@@ -69,18 +78,22 @@ returns c =
     let c12 = c10 .before .before in
     let c13 = c12 .before in
     let c15 = c13 .before .before in
+    let c16 = c15 .before in
+    let c18 = c16 .before .before in
     rw (
-      c .pick-asked5 .ensures,
-      c1 .is-word6 .ensures,
-      c3 .pick-asked4 .ensures,
-      c4 .is-word5 .ensures,
-      c6 .pick-asked3 .ensures,
-      c7 .is-word4 .ensures,
-      c9 .pick-asked2 .ensures,
-      c10 .is-word3 .ensures,
-      c12 .pick-asked .ensures,
-      c13 .is-word2 .ensures,
-      c15 .is-word .ensures,
+      c .pick-asked6 .ensures,
+      c1 .is-word7 .ensures,
+      c3 .pick-asked5 .ensures,
+      c4 .is-word6 .ensures,
+      c6 .pick-asked4 .ensures,
+      c7 .is-word5 .ensures,
+      c9 .pick-asked3 .ensures,
+      c10 .is-word4 .ensures,
+      c12 .pick-asked2 .ensures,
+      c13 .is-word3 .ensures,
+      c15 .pick-asked .ensures,
+      c16 .is-word2 .ensures,
+      c18 .is-word .ensures,
     )
 
 pub alone-spec : {M : Type 1} → statement M
@@ -104,4 +117,7 @@ alone-spec =
     slice-aggregate-is-word-6
     is-word-requires-6
     pick-asked-requires-5
+    slice-aggregate-is-word-7
+    is-word-requires-7
+    pick-asked-requires-6
     returns)

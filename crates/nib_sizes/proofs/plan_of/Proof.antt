@@ -1,93 +1,47 @@
 -- `nib_sizes::plan_of` meets its contract.
 -- Assumes nothing.
-use mathlib.Core.Path.{refl, sym, ap, _∙_}
-use mathlib.Core.Bool.{not}
-use borrow.Author.Tests.{not-false}
-use Rattle.target.specs.Sizes.{inLimits}
-use Rattle.power.proofs.Answers.{limited}
-use Rattle.power.specs.Power.{wrongLength, unsigned, crcBad, fieldBad}
-use Rattle.nib_sizes.specs.Folder.{lengthsOf, planned, planOf}
-use Rattle.nib_sizes.proofs.Answers.{here, later}
+use mathlib.Core.Path.{sym, ap, _∙_}
+use Rattle.nib_sizes.specs.Folder.{planned, planOf}
 use borrow.Author.Needs.{needs}
 use Rattle.nib_sizes.proofs.plan_of.Statement.{statement}
 use Rattle.nib_sizes.proofs.plan_of.Tie as tie
 
-returns : tie.Need-returns
-unfolding planOf wrongLength unsigned crcBad fieldBad
-returns c = here _ _ _ (c .if1 .taken) refl
+known-part-requires : tie.Need-known-part-requires
+known-part-requires c κs = search needs
 
-is-signed-requires : tie.Need-is-signed-requires
-is-signed-requires c κs = search needs
-
-returns-2 : tie.Need-returns-2
-unfolding planOf wrongLength unsigned crcBad fieldBad
-returns-2 c =
-    let c2 = c .before .before in
-    later _ _ _ (c2 .if1 .left)
-    (here _ _ _ (ap not (sym (c .before .is-signed .ensures)) ∙ c .if2 .taken) refl)
-
-crc-good-requires : tie.Need-crc-good-requires
-crc-good-requires c κs = search needs
-
-returns-3 : tie.Need-returns-3
-unfolding planOf wrongLength unsigned crcBad fieldBad
-returns-3 c =
-    let c2 = c .before .before in
-    let c4 = c2 .before .before in
-    later _ _ _ (c4 .if1 .left)
-    (later _ _ _ (ap not (sym (c2 .before .is-signed .ensures)) ∙ c2 .if2 .left)
-    (here _ _ _ (ap not (sym (c .before .crc-good .ensures)) ∙ c .if3 .taken) refl))
-
-fields-in-limits-requires : tie.Need-fields-in-limits-requires
-fields-in-limits-requires c κs = search needs
-
-returns-4 : tie.Need-returns-4
-unfolding planOf wrongLength unsigned crcBad fieldBad
-returns-4 c =
-    let c2 = c .before .before in
-    let c4 = c2 .before .before in
-    let c6 = c4 .before .before in
-    later _ _ _ (c6 .if1 .left)
-    (later _ _ _ (ap not (sym (c4 .before .is-signed .ensures)) ∙ c4 .if2 .left)
-    (later _ _ _ (ap not (sym (c2 .before .crc-good .ensures)) ∙ c2 .if3 .left)
-    (here _ _ _ (ap not (sym (c .before .fields-in-limits .ensures)) ∙ c .if4 .taken) refl)))
-
-geometry-of-requires : tie.Need-geometry-of-requires
-geometry-of-requires c κs = sym (c .before .fields-in-limits .ensures) ∙ not-false _ (c .if4 .left)
+enum-known-k : tie.Need-enum-known-k
+enum-known-k c = search needs
 
 lengths-of-requires : tie.Need-lengths-of-requires
-lengths-of-requires c κs =
-    let fine = sym (c .before .before .fields-in-limits .ensures) ∙ not-false _ (c .before .if4 .left) in
-    ap inLimits (c .geometry-of .ensures) ∙ limited _ fine
+lengths-of-requires c κs = rw (c .before .k .given .1) at (c .before .before .before .known-part .ensures .1)
 
 planned-requires : tie.Need-planned-requires
 planned-requires c κs = search needs
 
-returns-5 : tie.Need-returns-5
-unfolding planOf wrongLength unsigned crcBad fieldBad
-returns-5 c =
-    let c0 = c .before .before .before in
-    let c2 = c0 .before .before in
-    let c4 = c2 .before .before in
-    let c6 = c4 .before .before in
-    later _ _ _ (c6 .if1 .left)
-    (later _ _ _ (ap not (sym (c4 .before .is-signed .ensures)) ∙ c4 .if2 .left)
-    (later _ _ _ (ap not (sym (c2 .before .crc-good .ensures)) ∙ c2 .if3 .left)
-    (later _ _ _ (ap not (sym (c0 .before .fields-in-limits .ensures)) ∙ c0 .if4 .left)
-    (c .planned .ensures ∙ ap planned (c .before .lengths-of .ensures ∙ ap lengthsOf (c .before .before .geometry-of .ensures))))))
+enum-known-k-2 : tie.Need-enum-known-k-2
+enum-known-k-2 c = search needs
+
+returns : tie.Need-returns
+unfolding planOf
+returns c =
+    let c3 = c .before .before .before in
+    rw (sym (c3 .before .before .known-part .ensures .0) ∙ c3 .k .given .1)
+    (c .planned .ensures ∙ ap planned (c .before .lengths-of .ensures))
+
+returns-2 : tie.Need-returns-2
+unfolding planOf
+returns-2 c =
+    let c1 = c .before in
+    rw (sym (c1 .before .before .known-part .ensures .0) ∙ c1 .k2 .given .1)
 
 pub plan-of-spec : {M : Type 1} → statement M
 plan-of-spec =
     tie.close
     (tie.spec
-    returns
-    is-signed-requires
-    returns-2
-    crc-good-requires
-    returns-3
-    fields-in-limits-requires
-    returns-4
-    geometry-of-requires
+    known-part-requires
+    enum-known-k
     lengths-of-requires
     planned-requires
-    returns-5)
+    enum-known-k-2
+    returns
+    returns-2)

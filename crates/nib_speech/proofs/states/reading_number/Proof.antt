@@ -92,6 +92,48 @@ mul-result-8 c = search needs
 add-result-8 : tie.Need-add-result-8
 add-result-8 c = search needs
 
+set-bit-requires-5 : tie.Need-set-bit-requires-5
+set-bit-requires-5 c κs = search needs
+
+cast-result-9 : tie.Need-cast-result-9
+cast-result-9 c = search needs
+
+mul-result-9 : tie.Need-mul-result-9
+mul-result-9 c = search needs
+
+add-result-9 : tie.Need-add-result-9
+add-result-9 c = search needs
+
+cast-result-10 : tie.Need-cast-result-10
+cast-result-10 c = search needs
+
+mul-result-10 : tie.Need-mul-result-10
+mul-result-10 c = search needs
+
+add-result-10 : tie.Need-add-result-10
+add-result-10 c = search needs
+
+cast-result-11 : tie.Need-cast-result-11
+cast-result-11 c = search needs
+
+mul-result-11 : tie.Need-mul-result-11
+mul-result-11 c = search needs
+
+add-result-11 : tie.Need-add-result-11
+add-result-11 c = search needs
+
+job-number-requires : tie.Need-job-number-requires
+job-number-requires c κs = search needs
+
+cast-result-12 : tie.Need-cast-result-12
+cast-result-12 c = search needs
+
+mul-result-12 : tie.Need-mul-result-12
+mul-result-12 c = search needs
+
+add-result-12 : tie.Need-add-result-12
+add-result-12 c = search needs
+
 returns : tie.Need-returns
 unfolding readingNumber
 returns c = search needs
@@ -129,4 +171,18 @@ reading-number-spec =
     add-result-7
     mul-result-8
     add-result-8
+    set-bit-requires-5
+    cast-result-9
+    mul-result-9
+    add-result-9
+    cast-result-10
+    mul-result-10
+    add-result-10
+    cast-result-11
+    mul-result-11
+    add-result-11
+    job-number-requires
+    cast-result-12
+    mul-result-12
+    add-result-12
     returns)

@@ -43,29 +43,66 @@ add-result-4 c = search needs
 enum-known-s-4 : tie.Need-enum-known-s-4
 enum-known-s-4 c = search needs
 
-wrong-number-requires : tie.Need-wrong-number-requires
-wrong-number-requires c κs = search needs
+asks-number-requires : tie.Need-asks-number-requires
+asks-number-requires c κs = search needs
 
 cast-result-4 : tie.Need-cast-result-4
 cast-result-4 c = search needs
 
+mul-result-2 : tie.Need-mul-result-2
+mul-result-2 c = search needs
+
 add-result-5 : tie.Need-add-result-5
 add-result-5 c = search needs
 
+add-result-6 : tie.Need-add-result-6
+add-result-6 c = search needs
+
+enum-known-s-5 : tie.Need-enum-known-s-5
+enum-known-s-5 c = search needs
+
+wrong-number-requires : tie.Need-wrong-number-requires
+wrong-number-requires c κs = search needs
+
+cast-result-5 : tie.Need-cast-result-5
+cast-result-5 c = search needs
+
+add-result-7 : tie.Need-add-result-7
+add-result-7 c = search needs
+
 returns : tie.Need-returns
-returns c = rw (c .enum-told .given .1)
+returns c = search needs
 
 returns-2 : tie.Need-returns-2
-returns-2 c = rw (c .before .s .given .1)
+returns-2 c =
+    let c1 = c .before in
+    rw (c1 .s .given .1)
 
 returns-3 : tie.Need-returns-3
-returns-3 c = rw (c .before .s2 .given .1)
+returns-3 c =
+    let c1 = c .before in
+    rw (c1 .s2 .given .1)
 
 returns-4 : tie.Need-returns-4
-returns-4 c = rw (c .before .s3 .given .1)
+returns-4 c =
+    let c1 = c .before in
+    rw (c1 .s3 .given .1)
 
 returns-5 : tie.Need-returns-5
-returns-5 c = rw (c .wrong-number .ensures, c .before .before .s4 .given .1)
+returns-5 c =
+    let c2 = c .before .before in
+    rw (
+      c .asks-number .ensures,
+      c2 .s4 .given .1,
+    )
+
+returns-6 : tie.Need-returns-6
+returns-6 c =
+    let c2 = c .before .before in
+    rw (
+      c .wrong-number .ensures,
+      c2 .s5 .given .1,
+    )
 
 pub said-number-spec : {M : Type 1} → statement M
 said-number-spec =
@@ -84,11 +121,18 @@ said-number-spec =
     enum-known-s-3
     add-result-4
     enum-known-s-4
-    wrong-number-requires
+    asks-number-requires
     cast-result-4
+    mul-result-2
     add-result-5
+    add-result-6
+    enum-known-s-5
+    wrong-number-requires
+    cast-result-5
+    add-result-7
     returns
     returns-2
     returns-3
     returns-4
-    returns-5)
+    returns-5
+    returns-6)

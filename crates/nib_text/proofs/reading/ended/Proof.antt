@@ -11,20 +11,35 @@ ends-line-requires c κs = search needs
 word-due-requires : tie.Need-word-due-requires
 word-due-requires c κs = search needs
 
+word-job-requires : tie.Need-word-job-requires
+word-job-requires c κs = search needs
+
 word-kind-requires : tie.Need-word-kind-requires
 word-kind-requires c κs = search needs
 
 pick-kind-requires : tie.Need-pick-kind-requires
 pick-kind-requires c κs = search needs
 
-is-letter-requires : tie.Need-is-letter-requires
-is-letter-requires c κs = search needs
+pick-first-requires : tie.Need-pick-first-requires
+pick-first-requires c κs = search needs
+
+word-got-requires : tie.Need-word-got-requires
+word-got-requires c κs = search needs
+
+pick-byte-requires : tie.Need-pick-byte-requires
+pick-byte-requires c κs = search needs
 
 word-said-requires : tie.Need-word-said-requires
 word-said-requires c κs = search needs
 
-pick-said-requires : tie.Need-pick-said-requires
-pick-said-requires c κs = search needs
+late-said-requires : tie.Need-late-said-requires
+late-said-requires c κs = search needs
+
+is-head-requires : tie.Need-is-head-requires
+is-head-requires c κs = search needs
+
+pick-first-requires-2 : tie.Need-pick-first-requires-2
+pick-first-requires-2 c κs = search needs
 
 no-word-requires : tie.Need-no-word-requires
 no-word-requires c κs = search needs
@@ -34,20 +49,30 @@ unfolding ended
 returns c =
     let c1 = c .before in
     let c2 = c1 .before in
-    let c4 = c2 .before .before in
+    let c3 = c2 .before in
+    let c4 = c3 .before in
     let c5 = c4 .before in
     let c6 = c5 .before in
     let c7 = c6 .before in
     let c8 = c7 .before in
+    let c9 = c8 .before in
+    let c10 = c9 .before in
+    let c11 = c10 .before in
+    let c12 = c11 .before in
     rw (
       c .no-word .ensures,
-      c1 .pick-said .ensures,
-      c2 .word-said .ensures,
-      c4 .is-letter .ensures,
-      c5 .pick-kind .ensures,
-      c6 .word-kind .ensures,
-      c7 .word-due .ensures,
-      c8 .ends-line .ensures,
+      c1 .pick-first2 .ensures,
+      c2 .is-head .ensures,
+      c3 .late-said .ensures,
+      c4 .word-said .ensures,
+      c5 .pick-byte .ensures,
+      c6 .word-got .ensures,
+      c7 .pick-first .ensures,
+      c8 .pick-kind .ensures,
+      c9 .word-kind .ensures,
+      c10 .word-job .ensures,
+      c11 .word-due .ensures,
+      c12 .ends-line .ensures,
     )
 
 pub ended-spec : {M : Type 1} → statement M
@@ -56,10 +81,15 @@ ended-spec =
     (tie.spec
     ends-line-requires
     word-due-requires
+    word-job-requires
     word-kind-requires
     pick-kind-requires
-    is-letter-requires
+    pick-first-requires
+    word-got-requires
+    pick-byte-requires
     word-said-requires
-    pick-said-requires
+    late-said-requires
+    is-head-requires
+    pick-first-requires-2
     no-word-requires
     returns)

@@ -5,8 +5,20 @@ use borrow.Author.Needs.{needs}
 use Rattle.nib_text.proofs.reading.word_due.Statement.{statement}
 use Rattle.nib_text.proofs.reading.word_due.Tie as tie
 
-is-letter-requires : tie.Need-is-letter-requires
-is-letter-requires c κs = search needs
+word-job-requires : tie.Need-word-job-requires
+word-job-requires c κs = search needs
+
+word-got-requires : tie.Need-word-got-requires
+word-got-requires c κs = search needs
+
+asks-of-requires : tie.Need-asks-of-requires
+asks-of-requires c κs = search needs
+
+wants-requires : tie.Need-wants-requires
+wants-requires c κs = search needs
+
+is-head-requires : tie.Need-is-head-requires
+is-head-requires c κs = search needs
 
 pick-bool-requires : tie.Need-pick-bool-requires
 pick-bool-requires c κs = search needs
@@ -15,10 +27,27 @@ returns : tie.Need-returns
 unfolding wordDue
 returns c =
     let c1 = c .before in
+    let c3 = c1 .before .before in
+    let c4 = c3 .before in
+    let c5 = c4 .before in
+    let c6 = c5 .before in
     rw (
       c .pick-bool .ensures,
-      c1 .is-letter .ensures,
+      c1 .is-head .ensures,
+      c3 .wants .ensures,
+      c4 .asks-of .ensures,
+      c5 .word-got .ensures,
+      c6 .word-job .ensures,
     )
 
 pub word-due-spec : {M : Type 1} → statement M
-word-due-spec = tie.close (tie.spec is-letter-requires pick-bool-requires returns)
+word-due-spec =
+    tie.close
+    (tie.spec
+    word-job-requires
+    word-got-requires
+    asks-of-requires
+    wants-requires
+    is-head-requires
+    pick-bool-requires
+    returns)

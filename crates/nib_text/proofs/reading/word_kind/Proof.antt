@@ -14,17 +14,34 @@ letter-of-requires c κs = search needs
 pick-kind-requires : tie.Need-pick-kind-requires
 pick-kind-requires c κs = search needs
 
+is-head-requires : tie.Need-is-head-requires
+is-head-requires c κs = search needs
+
+pick-kind-requires-2 : tie.Need-pick-kind-requires-2
+pick-kind-requires-2 c κs = search needs
+
 returns : tie.Need-returns
 unfolding wordKind
 returns c =
     let c1 = c .before in
     let c2 = c1 .before in
+    let c3 = c2 .before in
+    let c4 = c3 .before in
     rw (
-      c .pick-kind .ensures,
-      c1 .letter-of .ensures,
-      c2 .is-letter .ensures,
+      c .pick-kind2 .ensures,
+      c1 .is-head .ensures,
+      c2 .pick-kind .ensures,
+      c3 .letter-of .ensures,
+      c4 .is-letter .ensures,
     )
 
 pub word-kind-spec : {M : Type 1} → statement M
 word-kind-spec =
-    tie.close (tie.spec is-letter-requires letter-of-requires pick-kind-requires returns)
+    tie.close
+    (tie.spec
+    is-letter-requires
+    letter-of-requires
+    pick-kind-requires
+    is-head-requires
+    pick-kind-requires-2
+    returns)

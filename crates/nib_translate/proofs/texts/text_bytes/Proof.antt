@@ -7,10 +7,10 @@ use Rattle.nib_translate.proofs.texts.text_bytes.Statement.{statement}
 use Rattle.nib_translate.proofs.texts.text_bytes.Tie as tie
 
 abbrev Inv-loop : tie.InvT-loop
-Inv-loop chunk out₀ word₀ t₀ i₀ out word t i = i ≤ length chunk
+Inv-loop chunk out₀ word₀ bytes₀ room₀ t₀ i₀ out word bytes room t i = i ≤ length chunk
 
 abbrev μ-loop : tie.MeasureT-loop
-μ-loop chunk out₀ word₀ t₀ i₀ out word t i = length chunk - i
+μ-loop chunk out₀ word₀ bytes₀ room₀ t₀ i₀ out word bytes room t i = length chunk - i
 
 loop-holds : tie.Need-loop-holds Inv-loop μ-loop
 loop-holds c = omega arith
