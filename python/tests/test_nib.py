@@ -116,6 +116,11 @@ class Files(Nib):
         self.assertEqual(said[-6:], bytes.fromhex("013C 01A5 01FF"))
         with Bench.open(self.part) as bench:
             self.assertEqual(bytes(bench.page_of(1, 5, 3)[:3]), b"\x3C\xA5\xFF")
+        # a page may be what ECh gave, three copies, the first of them damaged
+        (self.part / "page").write_bytes(bytes(256) + 2 * parameter_page())
+        self.assertEqual(self.good("run", "t1", given=b"\x00\xFF"), bytes(2))
+        with Bench.open(self.part) as bench:
+            self.assertEqual(bytes(bench.page), parameter_page())
 
     def test_explain_says_what_python_says(self) -> None:
         self.good("new", "t1")

@@ -62,14 +62,6 @@ wrongNumber wrong.NotByte = 3
 wrongNumber wrong.NotNumber = 4
 wrongNumber wrong.Early = 5
 
-unfoldable pub wrongOf : ℕ → Wrong
-wrongOf n =
-    pick (eqb n 1) wrong.NoLetter
-    (pick (eqb n 2) wrong.NoValue
-    (pick (eqb n 3) wrong.NotByte
-    (pick (eqb n 4) wrong.NotNumber
-    wrong.Early)))
-
 abbrev pub saidNumber : Said → ℕ
 saidNumber said.Nothing = 0
 saidNumber (said.Record k v) = 65536 + k * 256 + v

@@ -8,7 +8,7 @@ use nib_text::reading::Word;
 use nib_text::reading::Wrong;
 use nib_text::writing::Writing;
 ghost use mathlib.Core.Path.{_≡_};
-ghost use Rattle.nib_speech.specs.Speech.{bit, kindOf, readingOf, readingNumber, wrongNumber, wrongOf, saidNumber, writingOf, writingNumber};
+ghost use Rattle.nib_speech.specs.Speech.{bit, kindOf, readingOf, readingNumber, wrongNumber, saidNumber, writingOf, writingNumber};
 
 pub fn set_bit(b: bool) -> u8
     ensures { λ r. ⌜ r ≡ bit b ⌝ }
@@ -73,22 +73,6 @@ pub fn wrong_number(w: Wrong) -> u8
         Wrong::NotByte => 3,
         Wrong::NotNumber => 4,
         Wrong::Early => 5,
-    }
-}
-
-pub fn wrong_of(n: u8) -> Wrong
-    ensures { λ w. ⌜ w ≡ wrongOf n ⌝ }
-{
-    if n == 1 {
-        Wrong::NoLetter
-    } else if n == 2 {
-        Wrong::NoValue
-    } else if n == 3 {
-        Wrong::NotByte
-    } else if n == 4 {
-        Wrong::NotNumber
-    } else {
-        Wrong::Early
     }
 }
 
