@@ -51,7 +51,7 @@ uint32_t nib_version(void);
  *
  * Plain numbers: it may be copied, stored, compared byte by byte (padding aside) and written to a file for the same
  * kind of machine. A new record is made by nib_power_on, which reads nothing of what was there before. Reading it is
- * welcome; whoever writes to it gets 13, or a target in the state that was written. 104 bytes where size_t has 8. */
+ * welcome; whoever writes to it gets 13, or a target in the state that was written. 112 bytes where size_t has 8. */
 typedef struct nib_target {
     /* The part, as its page says. */
     uint16_t data_bytes;    /* of a page: 16 to 16384 */
@@ -67,22 +67,23 @@ typedef struct nib_target {
     size_t column, row;     /* of the open sequence; 0 where it has none */
     size_t output_lun;      /* LUN whose register or status comes out; 0 where the output has none */
     size_t output_at;       /* place of the next byte that comes out; 0 where the output has none */
-    /* 0 or 1, each of them, down to fail. */
+    /* 0 or 1, each of them, down to fail; and copyback at the end. */
     uint8_t powered;        /* 0: every event is refused with 13 */
     uint8_t high;           /* the protect line is high: programs and erases are allowed */
     uint8_t clear;          /* program-clear is on: 80h clears the addressed LUN's register alone */
     uint8_t seen;           /* the first FFh has come */
-    uint8_t working[4];     /* by LUN: from 30h, 10h or D0h to its finish event */
+    uint8_t working[4];     /* by LUN: from 30h, 35h, 10h or D0h to its finish event */
     uint8_t fail[4];        /* by LUN: the last program or erase failed */
     /* ID bytes, as 90h with 00h gives them. */
     uint8_t maker, device;
     /* The open sequence. */
     uint8_t sequence;       /* enum nib_sequence */
-    uint8_t first;          /* enum nib_first; 0 where it has none */
+    uint8_t first;          /* enum nib_first: the command that opened it; 0 where it names none */
     uint8_t got;            /* address cycles or feature bytes of it that have come */
     uint8_t low, mid;       /* the bytes of a half-given address */
     uint8_t value;          /* the first byte of a half-given feature */
     uint8_t output;         /* enum nib_output: what data-out cycles give */
+    uint8_t copyback[4];    /* by LUN: 35h has read a page, and 85h may program it */
 } nib_target;
 
 /* Features supported, bits of bytes 6 and 7 of the parameter bytes. */
@@ -96,6 +97,7 @@ enum nib_feature {
 enum nib_optional {
     NIB_OPTIONAL_FEATURES = 1 << 2,                 /* EEh and EFh: get features, set features */
     NIB_OPTIONAL_STATUS_ENHANCED = 1 << 3,          /* 78h: read status enhanced */
+    NIB_OPTIONAL_COPYBACK = 1 << 4,                 /* 35h, and 85h with no sequence open: copyback */
     NIB_OPTIONAL_CHANGE_COLUMN_ENHANCED = 1 << 6    /* 06h: change read column enhanced */
 };
 
@@ -110,7 +112,8 @@ enum nib_first {
     NIB_FIRST_READ_ID = 7,                  /* 90h */
     NIB_FIRST_PARAMETER_PAGE = 8,           /* ECh */
     NIB_FIRST_GET_FEATURES = 9,             /* EEh */
-    NIB_FIRST_SET_FEATURES = 10             /* EFh */
+    NIB_FIRST_SET_FEATURES = 10,            /* EFh */
+    NIB_FIRST_COPYBACK_PROGRAM = 11         /* 85h with no sequence open */
 };
 
 enum nib_sequence {
@@ -119,8 +122,8 @@ enum nib_sequence {
     NIB_SEQUENCE_ROWS = 2,      /* row cycles are due */
     NIB_SEQUENCE_SINGLE = 3,    /* the one address of 90h, ECh, EEh or EFh is due */
     NIB_SEQUENCE_DUE = 4,       /* the second command is due */
-    NIB_SEQUENCE_FILLING = 5,   /* a program takes data */
-    NIB_SEQUENCE_MOVING = 6,    /* a program was given 85h, and waits for its two cycles */
+    NIB_SEQUENCE_FILLING = 5,   /* a program, opened by 80h or 85h, takes data */
+    NIB_SEQUENCE_MOVING = 6,    /* such a program was given 85h, and waits for its two cycles */
     NIB_SEQUENCE_SETTING = 7    /* EFh takes its four bytes */
 };
 
@@ -170,6 +173,7 @@ enum nib_refusal_number {
     NIB_REFUSED_PROTECT_EVENT = 11,     /* protect event while a LUN works or a sequence is open */
     NIB_REFUSED_BAD_RECORD = 12,        /* unknown kind, data out with a value not 0, protect above 1, odd last byte */
     NIB_REFUSED_TARGET = 13,            /* not powered, or a length or a number of the record that can't be */
+    NIB_REFUSED_NO_COPYBACK = 14,       /* 85h's row: no copyback is open on its LUN */
     NIB_REFUSED_ROOM = 16,              /* a trace's reply room is too short; nothing changes */
     NIB_REFUSED_PAGE_LENGTH = 20,       /* power-on: the parameter bytes are not 256 */
     NIB_REFUSED_SIGNATURE = 21,         /* power-on: they don't start with "ONFI" */
@@ -196,6 +200,7 @@ static inline const char *nib_words(unsigned refusal)
     case 11: return "protect event while a LUN works or a sequence is open";
     case 12: return "bad record";
     case 13: return "target not powered, or a length or a number of the record that can't be";
+    case 14: return "no copyback is open there";
     case 16: return "reply room too short";
     case 20: return "the parameter bytes are not 256";
     case 21: return "the parameter bytes don't start with ONFI";
@@ -560,8 +565,10 @@ uint64_t nib_back_next(uint64_t state, uint8_t byte);
 size_t nib_back_text(uint64_t state, uint8_t byte, uint8_t *out, size_t length);
 size_t nib_back_end(uint64_t state, uint8_t *out, size_t length);
 
-/* A record in words; where odd is not 0, its first byte alone, as the odd last byte of a trace. */
-size_t nib_say_event(uint8_t odd, uint8_t kind, uint8_t value, uint8_t *out, size_t length);
+/* A record in words; where odd is not 0, its first byte alone, as the odd last byte of a trace. inside is not 0 where
+ * a sequence is open when it comes (t->sequence != NIB_SEQUENCE_NONE): 85h is then a change of column, and else a
+ * copyback program. */
+size_t nib_say_event(uint8_t odd, uint8_t kind, uint8_t value, uint8_t inside, uint8_t *out, size_t length);
 
 /* A reply in words. lun is the LUN that the event was about, which refusal 5 names. */
 size_t nib_say_reply(uint8_t first, uint8_t second, size_t lun, uint8_t *out, size_t length);

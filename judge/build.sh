@@ -10,6 +10,7 @@ mkdir -p "$out"
 
 build() {
     $cc $flags plain.c selftest.c -o "$out/selftest"
+    $cc $flags plain.c sequences.c -o "$out/sequences"
     $cc $flags plain.c generate.c -o "$out/generate"
     $cc $flags -DPLAIN_ERRORS plain.c generate.c -o "$out/generate-errors"
 }
@@ -21,6 +22,7 @@ build)
 test)
     build
     "$out/selftest"
+    "$out/sequences" ../tests/sequences/*.txt
     # Fails by itself where a refusal or a kind of event came up too seldom.
     "$out/generate" > "$out/lines.txt"
     tail -n 5 "$out/lines.txt"
@@ -31,8 +33,10 @@ test)
 sanitize)
     san="-std=c11 -g -O1 -Wall -Wextra -Werror -fsanitize=address,undefined -fno-sanitize-recover=all"
     $cc $san plain.c selftest.c -o "$out/selftest-san"
+    $cc $san plain.c sequences.c -o "$out/sequences-san"
     $cc $san -DPLAIN_ERRORS plain.c generate.c -o "$out/generate-san"
     "$out/selftest-san"
+    "$out/sequences-san" ../tests/sequences/*.txt
     "$out/generate-san" > "$out/lines-san.txt"
     tail -n 5 "$out/lines-san.txt"
     ;;

@@ -47,6 +47,25 @@ power-on does not look at flags
 05h reads LUN 0
 data out of a register whose LUN works
 06h does not select
+an 85h row clears the register
+the mark stays after a copyback's 10h
+another LUN's 80h row closes the copyback
+14 before 5
+35h is accepted without optional bit 4
+an 80h row refused by 5 closes the copyback
+a 60h row closes the copyback
+30h leaves the copyback open
+D0h leaves the copyback open
+FFh leaves the copyback open
+a copyback that fails leaves the mark
+a lone 85h without optional bit 4 is 3
+85h inside a program without optional bit 4 is 1
+a row refused by 14 selects its LUN
+a move makes a plain program of a copyback
+35h leaves FAIL as it is
+85h clears every register while program-clear is off
+a copyback's 10h refused by 7 closes it
+a lone 85h is accepted without optional bit 4
 LIST
 }
 

@@ -165,9 +165,9 @@ static uint64_t optional_bits(uint64_t *g)
 {
     uint64_t options = g[G_FIELD + F_OPTIONS];
     uint64_t low = below(g, 4);
-    uint64_t middle = below(g, 4);
+    uint64_t middle = below(g, 2);
     uint64_t high = below(g, 512);
-    return low + options / 4 % 2 * 4 + options % 2 * 8 + middle * 16
+    return low + options / 4 % 2 * 4 + options % 2 * 8 + options / 16 % 2 * 16 + middle * 32
         + options / 2 % 2 * 64 + high * 128;
 }
 
@@ -434,7 +434,7 @@ static void make_all_ready(uint64_t *g, uint8_t *records)
         make_ready(g, records, lun);
 }
 
-/* After 30h, 10h, D0h: half of the time the finish follows. */
+/* After 30h, 35h, 10h, D0h: half of the time the finish follows. */
 static void begin_work(uint64_t *g, uint8_t *records, uint64_t lun)
 {
     set_busy(g, lun);
@@ -445,17 +445,23 @@ static void begin_work(uint64_t *g, uint8_t *records, uint64_t lun)
 
 /* ---- Jobs ---- */
 
-static void read_page(uint64_t *g, uint8_t *records, uint64_t lun, uint64_t row)
+/* 00h, a row, and 30h or 35h. */
+static void load_page(uint64_t *g, uint8_t *records, uint64_t lun, uint64_t row, uint64_t second)
 {
     uint64_t column = pick_column(g);
     make_ready(g, records, lun);
     command(g, records, 0x00);
     put_column(g, records, column);
     put_row(g, records, lun, row);
-    command(g, records, 0x30);
+    command(g, records, second);
     begin_work(g, records, lun);
     if (below(g, 2) == 1)
         take_out(g, records, pick_length(g, column));
+}
+
+static void read_page(uint64_t *g, uint8_t *records, uint64_t lun, uint64_t row)
+{
+    load_page(g, records, lun, row, 0x30);
 }
 
 static void job_read(uint64_t *g, uint8_t *records)
@@ -497,12 +503,13 @@ static void give_data(uint64_t *g, uint8_t *records, uint64_t column)
     }
 }
 
-static void program_page(uint64_t *g, uint8_t *records, uint64_t lun, uint64_t row)
+/* 80h or 85h, a row, data and moves, 10h. */
+static void fill_page(uint64_t *g, uint8_t *records, uint64_t lun, uint64_t row, uint64_t first)
 {
     uint64_t column = pick_column(g);
     uint64_t moves = below(g, 3);
     make_ready(g, records, lun);
-    command(g, records, 0x80);
+    command(g, records, first);
     put_column(g, records, column);
     put_row(g, records, lun, row);
     give_data(g, records, column);
@@ -514,6 +521,11 @@ static void program_page(uint64_t *g, uint8_t *records, uint64_t lun, uint64_t r
     }
     command(g, records, 0x10);
     begin_work(g, records, lun);
+}
+
+static void program_page(uint64_t *g, uint8_t *records, uint64_t lun, uint64_t row)
+{
+    fill_page(g, records, lun, row, 0x80);
 }
 
 static void job_program(uint64_t *g, uint8_t *records)
@@ -638,10 +650,81 @@ static void job_set(uint64_t *g, uint8_t *records)
     }
 }
 
+/* A row of 80h, whole or one cycle short, or of 60h, and a command that doesn't fit. */
+static void job_give_up(uint64_t *g, uint8_t *records)
+{
+    uint64_t what = below(g, 3);
+    uint64_t lun = pick_lun(g);
+    uint64_t row = pick_row(g, lun);
+    make_ready(g, records, lun);
+    if (what == 2) {
+        command(g, records, 0x60);
+    } else {
+        command(g, records, 0x80);
+        put_column(g, records, 0);
+    }
+    if (what == 0) {
+        address(g, records, row % 256);
+        address(g, records, row / 256 % 256);
+    } else {
+        put_row(g, records, lun, row);
+    }
+    command(g, records, 0x70);
+}
+
+static void job_copy_read(uint64_t *g, uint8_t *records)
+{
+    uint64_t lun = pick_lun(g);
+    uint64_t row = pick_row(g, lun);
+    load_page(g, records, lun, row, 0x35);
+}
+
+static void job_copy_write(uint64_t *g, uint8_t *records)
+{
+    uint64_t lun = pick_lun(g);
+    uint64_t row = pick_row(g, lun);
+    fill_page(g, records, lun, row, 0x85);
+}
+
+/* What may come between a copyback's halves: half of the time nothing. */
+static void between_halves(uint64_t *g, uint8_t *records)
+{
+    uint64_t what = below(g, 12);
+    if (what == 0)
+        job_program(g, records);
+    if (what == 1)
+        job_erase(g, records);
+    if (what == 2)
+        job_read(g, records);
+    if (what == 3)
+        job_lun_status(g, records);
+    if (what == 4)
+        job_copy_read(g, records);
+    if (what == 5)
+        job_give_up(g, records);
+}
+
+/* A page copied, mostly inside its LUN; at times once more, and at times read back. */
+static void job_copy(uint64_t *g, uint8_t *records)
+{
+    uint64_t lun = pick_lun(g);
+    uint64_t row = pick_row(g, lun);
+    load_page(g, records, lun, row, 0x35);
+    between_halves(g, records);
+    if (below(g, 6) == 0)
+        lun = pick_lun(g);
+    row = pick_row(g, lun);
+    fill_page(g, records, lun, row, 0x85);
+    if (below(g, 4) == 0)
+        fill_page(g, records, lun, row, 0x85);
+    if (below(g, 2) == 0)
+        read_page(g, records, lun, row);
+}
+
 /* The line goes low, something is tried, and mostly it goes high again. */
 static void job_low(uint64_t *g, uint8_t *records)
 {
-    uint64_t what = below(g, 3);
+    uint64_t what = below(g, 4);
     uint64_t back = below(g, 8);
     make_all_ready(g, records);
     put(g, records, 5, 0);
@@ -651,6 +734,8 @@ static void job_low(uint64_t *g, uint8_t *records)
         job_erase(g, records);
     if (what == 2)
         job_read(g, records);
+    if (what == 3)
+        job_copy(g, records);
     make_all_ready(g, records);
     job_status(g, records);
     if (back != 0)
@@ -709,7 +794,11 @@ static void one_job(uint64_t *g, uint8_t *records, uint64_t job)
     case J_RESET: put_reset(g, records); break;
     case J_FINISH: job_finish(g, records); break;
     case J_BACK: job_back(g, records); break;
-    default: job_twice(g, records); break;
+    case J_TWICE: job_twice(g, records); break;
+    case J_COPY: job_copy(g, records); break;
+    case J_COPY_READ: job_copy_read(g, records); break;
+    case J_COPY_WRITE: job_copy_write(g, records); break;
+    default: job_give_up(g, records); break;
     }
 }
 
@@ -972,6 +1061,15 @@ static void absorb_rest(const struct plain_target *t, uint64_t *g, const uint8_t
     show(g, "rest", which, start, length, 0);
 }
 
+/* The record's numbers that no reply need show: which LUNs have a copyback open. */
+static void absorb_record(const struct plain_target *t, uint64_t *g)
+{
+    const struct plain_lun *l = t->lun;
+    for (uint64_t i = 0; i < PLAIN_MAX_LUNS; i++)
+        absorb(g, l[i].copyback);
+    show(g, "copybacks", l[0].copyback, l[1].copyback, l[2].copyback, l[3].copyback);
+}
+
 static void set_output(struct plain_target *t, uint8_t kind, uint64_t lun, uint64_t next)
 {
     t->sequence = (struct plain_sequence){0};
@@ -996,6 +1094,10 @@ static void spoil_number(struct plain_target *t, uint64_t what)
     case 11: t->selected = t->luns; break;
     case 12: t->lun[3].working = true; break;
     case 30: t->lun[3].fail = true; break;
+    case 47: t->lun[3].copyback = true; break;
+    case 48: t->features |= 1; break;
+    case 49: t->features &= 0xFFFD; break;
+    case 54: t->lun[t->luns - 1].copyback = true; break;    /* legal, with the option or without */
     default: break;
     }
 }
@@ -1047,7 +1149,10 @@ static void spoil_sequence(struct plain_target *t, uint64_t what)
     case 39: set_sequence(t, PLAIN_SEQ_ERASE, 3, 0, 0, t->blocks, 0); break;
     case 40: set_sequence(t, PLAIN_SEQ_PROGRAM, 5, 0, 0, 0, t->pages); break;
     case 41: set_sequence(t, PLAIN_SEQ_READ, 5, 0, 0, t->blocks, 0); break;
-    case 42: set_sequence(t, PLAIN_SEQ_MOVE, 0, 0, luns, 0, 0); break;
+    case 42: set_sequence(t, PLAIN_SEQ_MOVE, 0, 0, luns, 0, 0); t->sequence.first = 0x80; break;
+    case 50: set_sequence(t, PLAIN_SEQ_COPYBACK, 5, size + 1, 0, 0, 0); break;
+    case 51: set_sequence(t, PLAIN_SEQ_COPYBACK, 5, 0, luns, 0, 0); break;
+    case 52: set_sequence(t, PLAIN_SEQ_MOVE, 0, 0, luns, 0, 0); t->sequence.first = 0x85; break;
     default: break;
     }
 }
@@ -1064,6 +1169,7 @@ static void legal_sequence(struct plain_target *t, const uint64_t *g, uint64_t w
     case 44: set_sequence(t, PLAIN_SEQ_ERASE, 3, 0, lun, t->blocks - 1, page); break;
     case 45: set_sequence(t, PLAIN_SEQ_LUN_COLUMN, 5, size - 1, lun, block, page); break;
     case 46: set_sequence(t, PLAIN_SEQ_READ, 5, size - 1, lun, t->blocks - 1, t->pages - 1); break;
+    case 53: set_sequence(t, PLAIN_SEQ_COPYBACK, 5, size, lun, t->blocks - 1, t->pages - 1); break;
     default: break;
     }
 }
@@ -1105,8 +1211,10 @@ static uint64_t fills_bits(uint64_t n)
 static uint64_t pick_spoil(uint64_t *g)
 {
     uint64_t what = below(g, SPOILS);
-    if (g[G_FIELD + F_LUNS] == 4 && (what == 12 || what == 30))
+    if (g[G_FIELD + F_LUNS] == 4 && (what == 12 || what == 30 || what == 47))
         what = 11;
+    if (g[G_FIELD + F_LUNS] == 1 && what == 49)
+        what = 48;
     if ((what == 39 || what == 41) && fills_bits(g[G_FIELD + F_BLOCKS]) == 1)
         what = 35;
     if (what == 40 && fills_bits(g[G_FIELD + F_PAGES]) == 1)
@@ -1118,13 +1226,15 @@ static uint64_t is_legal(uint64_t what)
 {
     if (what >= 25 && what <= 29)
         return 1;
-    if (what >= 43)
+    if (what >= 43 && what <= 46)
+        return 1;
+    if (what >= 53)
         return 1;
     return 0;
 }
 
 /* One event, then a trace of it and an odd byte, on a spoiled copy. A legal
- * neighbour gets data out (43: data in), which changes no lent byte. */
+ * neighbour gets data out (43, 53: data in), which changes no lent byte. */
 static void run_spoiled(const struct plain_target *t, uint64_t *g, uint8_t *replies,
                         const uint8_t *page, uint8_t *array, uint8_t *registers,
                         uint8_t *counts, const uint8_t *flags)
@@ -1134,7 +1244,7 @@ static void run_spoiled(const struct plain_target *t, uint64_t *g, uint8_t *repl
     uint64_t what = pick_spoil(g);
     uint64_t legal = is_legal(what);
     uint64_t follow = below(g, 2);
-    if (what == 43)             /* data in at P */
+    if (what == 43 || what == 53)       /* data in at P */
         records[0] = 2;
     if (legal == 0) {
         records[0] = (uint8_t)below(g, 6);
@@ -1175,6 +1285,7 @@ static void run_trace(struct plain_target *t, uint64_t *g, const uint8_t *record
             run_batch(t, g, records, at, bytes + odd, replies, page, array, registers, counts,
                       flags);
         absorb_rest(t, g, page, registers);
+        absorb_record(t, g);
         if (chance(g, g[G_KNOB + K_SPOIL]) == 1)
             run_spoiled(t, g, replies, page, array, registers, counts, flags);
         at = at + bytes;
@@ -1335,7 +1446,7 @@ static void power_case(struct plain_target *t, uint64_t *g, uint8_t *records, ui
     g[G_LEN] = 0;
     put_reset(g, records);
     if (r == 0)
-        for (uint64_t job = 0; job < MIX; job++)
+        for (uint64_t job = 0; job < JOBS; job++)
             one_job(g, records, job);
     else
         put_bad(g, records);
@@ -1426,7 +1537,7 @@ static void print_line(const uint64_t *g, uint64_t part, uint64_t kind)
 {
     printf("%" PRIu64 " %" PRIu64 " %" PRIu64 " %" PRIu64 " %" PRIu64 " ",
            part, kind, g[G_EVENTS], g[G_H1], g[G_H2]);
-    for (uint64_t n = 1; n <= 13; n++)
+    for (uint64_t n = 1; n <= 14; n++)
         printf(" %" PRIu64, g[G_REFUSED + n]);
     printf(" %" PRIu64 " ", g[G_REFUSED + 16]);
     for (uint64_t k = 0; k < 6; k++)
@@ -1453,7 +1564,7 @@ static void add_up(uint64_t *total, const uint64_t *g)
 static int enough(const uint64_t *total)
 {
     int ok = total[G_EVENTS] >= 2200000 && total[G_SURPRISES] == 0;
-    for (uint64_t n = 1; n <= 13; n++)
+    for (uint64_t n = 1; n <= 14; n++)
         ok = ok && total[G_REFUSED + n] >= 1000;
     ok = ok && total[G_REFUSED + 16] >= 1000;
     for (uint64_t n = 20; n <= 25; n++)
@@ -1467,8 +1578,8 @@ static void print_totals(const uint64_t *total)
 {
     printf("total events %" PRIu64 " digest %" PRIu64 " %" PRIu64 "\n",
            total[G_EVENTS], total[G_H1], total[G_H2]);
-    printf("refused 1-13 16:");
-    for (uint64_t n = 1; n <= 13; n++)
+    printf("refused 1-14 16:");
+    for (uint64_t n = 1; n <= 14; n++)
         printf(" %" PRIu64, total[G_REFUSED + n]);
     printf(" %" PRIu64 "\n", total[G_REFUSED + 16]);
     printf("accepted command address in out finish protect:");
@@ -1487,6 +1598,7 @@ static void print_totals(const uint64_t *total)
  *   event PLACE KIND VALUE REPLY    one event
  *   room PLACE ROOM ANSWER 0    a batch with too little room
  *   rest WHICH START LENGTH 0   the unread rest
+ *   copybacks OPEN OPEN OPEN OPEN   by LUN, 1 where one is open
  *   spoil WHAT FOLLOW 0 0       what follows is on a spoiled copy
  *   buffers 0 0 0 0             the end of the trace
  * and last the first digest. A reply is its first byte times 256 plus the second. */
@@ -1520,7 +1632,7 @@ int main(int argc, char **argv)
 #endif
 
     if (only == LINES)
-        printf("# part kind events digest digest  refused 1-13 16  accepted 0-5"
+        printf("# part kind events digest digest  refused 1-14 16  accepted 0-5"
                "  (part %d: power-on 0 20-25)\n", PARTS);
     for (uint64_t line = 0; line < LINES; line++) {
         uint64_t g[G_NUMBERS] = {0};

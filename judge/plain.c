@@ -37,6 +37,7 @@ static const struct shape {
     [PLAIN_SEQ_ERASE] = {3, 0, false},
     [PLAIN_SEQ_STATUS] = {3, 0, true},
     [PLAIN_SEQ_PROGRAM] = {5, 2, false},
+    [PLAIN_SEQ_COPYBACK] = {5, 2, false},
     [PLAIN_SEQ_MOVE] = {2, 2, true},
     [PLAIN_SEQ_ID] = {1, 0, true},
     [PLAIN_SEQ_PARAMETERS] = {1, 0, true},
@@ -45,6 +46,15 @@ static const struct shape {
 };
 
 static const uint8_t signature[4] = {'O', 'N', 'F', 'I'};
+
+/* Bits of the two words. */
+enum { FEATURE_WIDE = 0, FEATURE_LUNS = 1, FEATURE_CLEAR = 8 };
+enum { OPTION_FEATURES = 2, OPTION_78H = 3, OPTION_COPYBACK = 4, OPTION_06H = 6 };
+
+static bool has(uint16_t word, unsigned bit)
+{
+    return word >> bit & 1;
+}
 
 /* ---- Rule 13 ---- */
 
@@ -64,7 +74,9 @@ static bool geometry_usable(const struct plain_target *t)
         && in_limits(t->pages, 1, 256)
         && in_limits(t->blocks, 1, 4096)
         && in_limits(t->luns, 1, PLAIN_MAX_LUNS)
-        && in_limits(t->programs, 1, 8);
+        && in_limits(t->programs, 1, 8)
+        && !has(t->features, FEATURE_WIDE)
+        && (t->luns == 1 || ERR(33, true, has(t->features, FEATURE_LUNS)));
 }
 
 /* 64 bits: the largest array is past 32. */
@@ -85,7 +97,7 @@ static bool luns_usable(const struct plain_target *t)
     if (t->selected >= t->luns)
         return false;
     for (uint32_t l = t->luns; l < PLAIN_MAX_LUNS; l++)
-        if (t->lun[l].working || t->lun[l].fail)
+        if (t->lun[l].working || t->lun[l].fail || t->lun[l].copyback)
             return false;
     return true;
 }
@@ -96,6 +108,7 @@ static bool row_usable(const struct plain_target *t, const struct plain_sequence
     switch (s->kind) {
     case PLAIN_SEQ_READ:
     case PLAIN_SEQ_PROGRAM:
+    case PLAIN_SEQ_COPYBACK:
     case PLAIN_SEQ_MOVE:
         return s->page < t->pages && s->block < t->blocks && s->lun < t->luns;
     case PLAIN_SEQ_ERASE:
@@ -125,13 +138,13 @@ static bool sequence_usable(const struct plain_target *t)
     if (shape->columns != 0 && n == 1 && s->column > 0xFF)
         return false;
     if (shape->columns != 0 && n >= 2) {
-        bool taking = s->kind == PLAIN_SEQ_PROGRAM && n == 5;
+        bool taking = (s->kind == PLAIN_SEQ_PROGRAM || s->kind == PLAIN_SEQ_COPYBACK) && n == 5;
         if (!column_exists(t, s->column) && !(taking && s->column == t->page_size))
             return false;
     }
 
     if (s->kind == PLAIN_SEQ_MOVE)      /* the program's row is there already */
-        return row_usable(t, s);
+        return row_usable(t, s) && (s->first == 0x80 || s->first == 0x85);
     if (shape->cycles == 3 || shape->cycles == 5) {
         unsigned given = n > shape->columns ? n - shape->columns : 0;
         if (given == 3)
@@ -287,26 +300,37 @@ static bool complete(const struct plain_target *t, uint8_t kind)
     return t->sequence.kind == kind && t->sequence.cycles == shapes[kind].cycles;
 }
 
-static uint32_t read_start(struct plain_target *t, const struct lent *b)
+/* A program of either kind, all its addresses there. */
+static bool takes_data(const struct plain_target *t)
+{
+    return complete(t, PLAIN_SEQ_PROGRAM) || complete(t, PLAIN_SEQ_COPYBACK);
+}
+
+/* 30h; and 35h, which reads as 30h does and opens a copyback on the LUN. */
+static uint32_t read_start(struct plain_target *t, const struct lent *b, bool copyback)
 {
     if (!complete(t, PLAIN_SEQ_READ))
         return REFUSED(3);
     struct plain_sequence s = t->sequence;
+    struct plain_lun *l = &t->lun[s.lun];
     size_t page = block_index(t, s.lun, s.block) * t->pages + s.page;
     memcpy(register_of(t, b, s.lun), b->array + page * t->page_size, t->page_size);
-    start_work(t, s.lun, ERR(15, t->lun[s.lun].fail, false));
+    start_work(t, s.lun, l->fail && (ERR(15, true, false) || ERR(53, copyback, false)));
     open_output(t, PLAIN_OUT_REGISTER, s.lun, s.column);
+    l->copyback = copyback || ERR(45, l->copyback, false);
     return ACCEPTED;
 }
 
 static uint32_t program_start(struct plain_target *t, const struct lent *b)
 {
-    if (!complete(t, PLAIN_SEQ_PROGRAM)
-        && ERR(27, t->sequence.kind != PLAIN_SEQ_MOVE, true))
+    if (!takes_data(t) && ERR(27, t->sequence.kind != PLAIN_SEQ_MOVE, true))
         return REFUSED(3);
+    struct plain_sequence s = t->sequence;
+    bool copyback = s.kind == PLAIN_SEQ_COPYBACK;
+    if (ERR(55, !t->line_high && copyback, false))
+        t->lun[s.lun].copyback = false;
     if (!t->line_high)
         return REFUSED(7);
-    struct plain_sequence s = t->sequence;
     size_t block = block_index(t, s.lun, s.block);
     size_t page = block * t->pages + s.page;
     bool fail = b->flags[block] != 0
@@ -318,6 +342,8 @@ static uint32_t program_start(struct plain_target *t, const struct lent *b)
             cells[i] = ERR(3, from[i], cells[i] & from[i]);
         b->counts[page]++;
     }
+    if (copyback && ERR(39, false, true) && ERR(48, !fail, true))
+        t->lun[s.lun].copyback = false;
     start_work(t, s.lun, fail);
     return ACCEPTED;
 }
@@ -337,6 +363,7 @@ static uint32_t erase_start(struct plain_target *t, const struct lent *b)
         if (ERR(23, false, true))
             memset(b->counts + block * t->pages, 0, t->pages);
     }
+    t->lun[s.lun].copyback = ERR(46, t->lun[s.lun].copyback, false);
     start_work(t, s.lun, fail);
     return ACCEPTED;
 }
@@ -352,19 +379,31 @@ static uint32_t output_start(struct plain_target *t)
     return ACCEPTED;
 }
 
+/* 85h inside a program that takes data. */
 static uint32_t move_command(struct plain_target *t)
 {
-    if (!complete(t, PLAIN_SEQ_PROGRAM))
-        return REFUSED(3);
+    t->sequence.first = t->sequence.kind == PLAIN_SEQ_COPYBACK ? 0x85 : 0x80;
     t->sequence.kind = PLAIN_SEQ_MOVE;
     t->sequence.cycles = 0;
     return ACCEPTED;
 }
 
+/* 85h elsewhere: the option is asked for only where it would be a first command. */
+static uint32_t copyback_command(struct plain_target *t, const struct lent *b)
+{
+    if (t->sequence.kind == PLAIN_SEQ_NONE && !has(t->optional, OPTION_COPYBACK) && ERR(56, false, true))
+        return REFUSED(ERR(49, 3, 1));
+    uint32_t reply = first_command(t, PLAIN_SEQ_COPYBACK);
+    if (reply == ACCEPTED && ERR(54, !t->program_clear, false))
+        memset(b->registers, 0xFF, b->registers_len);
+    return reply;
+}
+
 static uint32_t reset(struct plain_target *t, const struct lent *b)
 {
     memset(b->registers, 0xFF, b->registers_len);
-    memset(t->lun, 0, sizeof t->lun);
+    for (uint32_t l = 0; l < t->luns; l++)
+        t->lun[l] = (struct plain_lun){.copyback = ERR(47, t->lun[l].copyback, false)};
     close_sequence(t);
     t->output = (struct plain_output){0};
     t->program_clear = ERR(17, t->program_clear, false);
@@ -378,23 +417,27 @@ static uint32_t command(struct plain_target *t, const struct lent *b, uint8_t c)
     switch (c) {
     case 0x00: return first_command(t, PLAIN_SEQ_READ);
     case 0x05: return first_command(t, PLAIN_SEQ_COLUMN);
-    case 0x06: if (!t->offers_06h) break;
+    case 0x06: if (!has(t->optional, OPTION_06H)) break;
                return first_command(t, PLAIN_SEQ_LUN_COLUMN);
     case 0x10: return program_start(t, b);
-    case 0x30: return read_start(t, b);
+    case 0x30: return read_start(t, b, false);
+    case 0x35: if (!has(t->optional, OPTION_COPYBACK) && ERR(42, false, true)) break;
+               return read_start(t, b, true);
     case 0x60: return first_command(t, PLAIN_SEQ_ERASE);
     case 0x70: return status_command(t);
-    case 0x78: if (!t->offers_78h) break;
+    case 0x78: if (!has(t->optional, OPTION_78H)) break;
                return first_command(t, PLAIN_SEQ_STATUS);
     case 0x80: return program_command(t, b);
-    case 0x85: return move_command(t);
+    case 0x85: if (!takes_data(t)) return copyback_command(t, b);
+               if (ERR(50, !has(t->optional, OPTION_COPYBACK), false)) break;
+               return move_command(t);
     case 0x90: return quiet_command(t, PLAIN_SEQ_ID);
     case 0xD0: return erase_start(t, b);
     case 0xE0: return output_start(t);
     case 0xEC: return quiet_command(t, PLAIN_SEQ_PARAMETERS);
-    case 0xEE: if (!t->offers_features) break;
+    case 0xEE: if (!has(t->optional, OPTION_FEATURES)) break;
                return quiet_command(t, PLAIN_SEQ_GET);
-    case 0xEF: if (!t->offers_features) break;
+    case 0xEF: if (!has(t->optional, OPTION_FEATURES)) break;
                return quiet_command(t, PLAIN_SEQ_SET);
     case 0xFF: return reset(t, b);
     }
@@ -428,13 +471,23 @@ static void split_row(const struct plain_target *t, struct plain_sequence *s)
         s->lun = t->luns - 1;
 }
 
+/* 80h's row, accepted: it closes the LUN's copyback, and with program-clear on fills its register. */
+static void program_row(struct plain_target *t, const struct lent *b)
+{
+    uint32_t lun = t->sequence.lun;
+    for (uint32_t l = 0; l < t->luns; l++)
+        if (l == lun || ERR(40, true, false))
+            t->lun[l].copyback = false;
+    if (ERR(2, true, t->program_clear))
+        memset(register_of(t, b, lun), 0xFF, t->page_size);
+}
+
 static uint32_t whole_row(struct plain_target *t, const struct lent *b)
 {
     struct plain_sequence *s = &t->sequence;
-    bool by_block = s->kind == PLAIN_SEQ_READ || s->kind == PLAIN_SEQ_PROGRAM
-        || s->kind == PLAIN_SEQ_ERASE || ERR(21, s->kind == PLAIN_SEQ_STATUS, false);
-    bool by_page = s->kind == PLAIN_SEQ_READ || s->kind == PLAIN_SEQ_PROGRAM
-        || ERR(20, s->kind == PLAIN_SEQ_ERASE, false);
+    bool whole = s->kind == PLAIN_SEQ_READ || s->kind == PLAIN_SEQ_PROGRAM || s->kind == PLAIN_SEQ_COPYBACK;
+    bool by_block = whole || s->kind == PLAIN_SEQ_ERASE || ERR(21, s->kind == PLAIN_SEQ_STATUS, false);
+    bool by_page = whole || ERR(20, s->kind == PLAIN_SEQ_ERASE, false);
     split_row(t, s);
     if (s->lun >= t->luns)
         return REFUSED(4);
@@ -444,17 +497,30 @@ static uint32_t whole_row(struct plain_target *t, const struct lent *b)
         return REFUSED(5);
     if ((by_block && s->block >= t->blocks) || (by_page && s->page >= t->pages))
         return REFUSED(4);
+    bool none_open = s->kind == PLAIN_SEQ_COPYBACK && !t->lun[s->lun].copyback;
+    if (ERR(41, none_open, false))
+        return REFUSED(14);
     if (ERR(25, true, false))
         t->selected = s->lun;
+    if (ERR(43, busy && s->kind == PLAIN_SEQ_PROGRAM, false))
+        t->lun[s->lun].copyback = false;
     if (busy)
         return REFUSED(5);
+    if (ERR(51, none_open, false))
+        t->selected = s->lun;
+    if (none_open)
+        return REFUSED(14);
 
     if (ERR(37, s->kind != PLAIN_SEQ_LUN_COLUMN, true))
         t->selected = s->lun;
     if (s->kind == PLAIN_SEQ_STATUS)
         open_output(t, PLAIN_OUT_STATUS, s->lun, 0);
-    else if (s->kind == PLAIN_SEQ_PROGRAM && ERR(2, true, t->program_clear))
+    else if (s->kind == PLAIN_SEQ_PROGRAM)
+        program_row(t, b);
+    else if (ERR(38, s->kind == PLAIN_SEQ_COPYBACK, false))
         memset(register_of(t, b, s->lun), 0xFF, t->page_size);
+    else if (ERR(44, s->kind == PLAIN_SEQ_ERASE, false))
+        t->lun[s->lun].copyback = false;
     return ACCEPTED;
 }
 
@@ -468,9 +534,10 @@ static uint32_t whole_column(struct plain_target *t)
         return REFUSED(4);
     if (busy)
         return REFUSED(5);
-    if (s->kind == PLAIN_SEQ_MOVE) {    /* back to the program, at its new place */
-        s->kind = PLAIN_SEQ_PROGRAM;
-        s->cycles = shapes[PLAIN_SEQ_PROGRAM].cycles;
+    if (s->kind == PLAIN_SEQ_MOVE) {    /* back to its program, at the new place */
+        s->kind = s->first == 0x85 && ERR(52, false, true) ? PLAIN_SEQ_COPYBACK : PLAIN_SEQ_PROGRAM;
+        s->cycles = shapes[s->kind].cycles;
+        s->first = 0;
     }
     return ACCEPTED;
 }
@@ -523,7 +590,7 @@ static uint32_t address(struct plain_target *t, const struct lent *b, uint8_t v)
 static uint32_t feature_byte(struct plain_target *t, uint8_t v)
 {
     struct plain_sequence *s = &t->sequence;
-    bool offered = v == 0 || (s->given == 0 && v == 0x40 && t->offers_clear);
+    bool offered = v == 0 || (s->given == 0 && v == 0x40 && has(t->features, FEATURE_CLEAR));
     if (!offered)
         return REFUSED(9);
     if (s->given == 0)
@@ -539,7 +606,7 @@ static uint32_t feature_byte(struct plain_target *t, uint8_t v)
 static uint32_t data_in(struct plain_target *t, const struct lent *b, uint8_t v)
 {
     struct plain_sequence *s = &t->sequence;
-    if (complete(t, PLAIN_SEQ_PROGRAM)) {
+    if (takes_data(t)) {
         if (s->column >= t->page_size)
             return ERR(7, ACCEPTED, REFUSED(8));
         register_of(t, b, s->lun)[s->column++] = v;
@@ -664,8 +731,6 @@ static uint16_t crc_of(const uint8_t *page)
 /* Fields into *t; false where one is outside its limits. */
 static bool take_fields(struct plain_target *t, const uint8_t *page)
 {
-    uint32_t features = number_at(page, 6, 2);
-    uint32_t optional = number_at(page, 8, 2);
     uint32_t data_bytes = number_at(page, 80, 4);
     uint32_t spare_bytes = number_at(page, 84, 2);
 
@@ -674,19 +739,13 @@ static bool take_fields(struct plain_target *t, const uint8_t *page)
     t->luns = page[100];
     t->programs = page[110];
     t->maker = page[64];
-    t->offers_features = optional >> 2 & 1;
-    t->offers_78h = optional >> 3 & 1;
-    t->offers_06h = optional >> 6 & 1;
-    t->offers_clear = features >> 8 & 1;
+    t->features = (uint16_t)number_at(page, 6, 2);
+    t->optional = (uint16_t)number_at(page, 8, 2);
     if (!in_limits(data_bytes, 16, 16384) || !in_limits(spare_bytes, 0, 2048))
         return false;
     t->page_size = data_bytes + spare_bytes;
 
-    bool many = features >> 1 & 1;
-    return geometry_usable(t)
-        && (t->luns == 1 || ERR(33, true, many))
-        && (features & 1) == 0
-        && page[101] == 0x23;
+    return geometry_usable(t) && page[101] == 0x23;
 }
 
 static bool contents_fit(const struct plain_target *t,

@@ -1,5 +1,5 @@
-/* The plain model of the NAND target of document 01: one struct, one switch.
- * It is written from the document alone, to judge the proved model by. */
+/* The plain model of the NAND target of document 01, with copyback (A1): one struct, one switch.
+ * It is written from the documents alone, to judge the proved model by. */
 #ifndef PLAIN_H
 #define PLAIN_H
 
@@ -15,13 +15,14 @@ enum {
 
 enum plain_sequence_kind {
     PLAIN_SEQ_NONE,
-    PLAIN_SEQ_READ,             /* 00h .. 30h */
+    PLAIN_SEQ_READ,             /* 00h .. 30h or 35h */
     PLAIN_SEQ_COLUMN,           /* 05h .. E0h */
     PLAIN_SEQ_LUN_COLUMN,       /* 06h .. E0h */
     PLAIN_SEQ_ERASE,            /* 60h .. D0h */
     PLAIN_SEQ_STATUS,           /* 78h */
     PLAIN_SEQ_PROGRAM,          /* 80h .. 10h */
-    PLAIN_SEQ_MOVE,             /* 85h inside a program */
+    PLAIN_SEQ_COPYBACK,         /* 85h .. 10h */
+    PLAIN_SEQ_MOVE,             /* 85h inside one of these two */
     PLAIN_SEQ_ID,               /* 90h */
     PLAIN_SEQ_PARAMETERS,       /* ECh */
     PLAIN_SEQ_GET,              /* EEh */
@@ -42,6 +43,7 @@ enum plain_output_kind {
 struct plain_lun {
     bool working;
     bool fail;
+    bool copyback;              /* opened by 35h */
 };
 
 /* A whole row is kept as its fields, so that each number has its own range. */
@@ -50,11 +52,12 @@ struct plain_sequence {
     uint8_t cycles;             /* address cycles so far */
     uint8_t given;              /* EFh: feature bytes so far */
     uint8_t p1;                 /* EFh: the first of them */
+    uint8_t first;              /* move: its program's first command, 80h or 85h */
     uint32_t column;            /* bytes so far; in a program the next place, up to P */
     uint32_t row;               /* bytes so far */
-    uint32_t page;              /* 00h, 80h */
-    uint32_t block;             /* 00h, 80h, 60h */
-    uint32_t lun;               /* 00h, 80h, 60h, 06h */
+    uint32_t page;              /* 00h, 80h, 85h */
+    uint32_t block;             /* 00h, 80h, 85h, 60h */
+    uint32_t lun;               /* 00h, 80h, 85h, 60h, 06h */
 };
 
 struct plain_output {
@@ -70,10 +73,8 @@ struct plain_target {
     uint32_t blocks;            /* a LUN */
     uint32_t luns;
     uint32_t programs;          /* a page */
-    bool offers_78h;
-    bool offers_06h;
-    bool offers_features;       /* EEh, EFh */
-    bool offers_clear;          /* 40h as P1 of feature 01h */
+    uint16_t features;          /* the words as the page has them */
+    uint16_t optional;
     uint8_t maker;
     uint8_t device;
     bool line_high;

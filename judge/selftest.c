@@ -1,92 +1,10 @@
 /* Checks of the plain model: document 01's whole case, its cases (a) to (j),
- * the makers' CRCs, and the readings that are easy to get wrong. */
-#include "plain.h"
+ * the makers' CRCs, and the readings that are easy to get wrong. sequences.c has the change requests'. */
+#include "bench.h"
 #include "maker-pages.h"
-
-#include <stdio.h>
-#include <string.h>
 
 #define ALL_OPTIONS 0x004C      /* 78h, 06h, EEh/EFh */
 #define ALL_FEATURES 0x0102     /* many LUNs, 40h */
-
-static unsigned checks, wrong;
-
-static void check(bool ok, const char *what)
-{
-    checks++;
-    if (!ok) {
-        wrong++;
-        printf("WRONG: %s\n", what);
-    }
-}
-
-/* A part small enough to lie in one struct. */
-struct bench {
-    struct plain_target t;
-    uint8_t page[256];
-    uint8_t array[40000], registers[4096], counts[256], flags[64];
-    size_t array_len, registers_len, counts_len, flags_len;
-};
-
-static void put_number(uint8_t *page, unsigned at, unsigned bytes, uint32_t n)
-{
-    for (unsigned i = 0; i < bytes; i++)
-        page[at + i] = (uint8_t)(n >> (8 * i));
-}
-
-/* By long division, another way than the model's. */
-static uint16_t second_crc(const uint8_t *page)
-{
-    uint32_t remainder = 0x4F4E;
-    for (unsigned bit = 0; bit < 254 * 8; bit++) {
-        uint32_t in = page[bit / 8] >> (7 - bit % 8) & 1;
-        uint32_t top = remainder >> 15 & 1;
-        remainder = remainder << 1 & 0xFFFF;
-        if (top != in)
-            remainder ^= 0x8005;
-    }
-    return (uint16_t)remainder;
-}
-
-static void make_page(uint8_t *page, uint32_t data, uint32_t spare, uint32_t pages,
-                      uint32_t blocks, uint32_t luns, uint32_t programs,
-                      uint32_t features, uint32_t optional)
-{
-    memset(page, 0, 256);
-    memcpy(page, "ONFI", 4);
-    put_number(page, 6, 2, features);
-    put_number(page, 8, 2, optional);
-    page[64] = 0x2C;
-    put_number(page, 80, 4, data);
-    put_number(page, 84, 2, spare);
-    put_number(page, 92, 4, pages);
-    put_number(page, 96, 4, blocks);
-    page[100] = (uint8_t)luns;
-    page[101] = 0x23;
-    page[110] = (uint8_t)programs;
-    put_number(page, 254, 2, second_crc(page));
-}
-
-static uint32_t power(struct bench *b)
-{
-    return plain_power_on(&b->t, b->page, 256, 0xDA, b->array, b->array_len,
-                          b->registers, b->registers_len, b->counts, b->counts_len,
-                          b->flags, b->flags_len);
-}
-
-static void make_bench(struct bench *b, uint32_t data, uint32_t spare, uint32_t pages,
-                       uint32_t blocks, uint32_t luns, uint32_t programs,
-                       uint32_t features, uint32_t optional)
-{
-    memset(b, 0, sizeof *b);
-    make_page(b->page, data, spare, pages, blocks, luns, programs, features, optional);
-    b->flags_len = luns * blocks;
-    b->counts_len = b->flags_len * pages;
-    b->registers_len = luns * (data + spare);
-    b->array_len = b->counts_len * (data + spare);
-    memset(b->array, 0xFF, b->array_len);
-    check(power(b) == 0, "power-on of a good part");
-}
 
 static void make_t1(struct bench *b)
 {
@@ -117,20 +35,14 @@ static size_t from_hex(const char *text, uint8_t *to)
     return n;
 }
 
-/* Runs the records, as a trace and one by one, and compares the replies. */
+/* Runs the records and compares the replies. */
 static void run(struct bench *b, const char *records, const char *replies, const char *what)
 {
-    static struct bench copy;
     uint8_t in[512], want[512], got[512];
     size_t n = from_hex(records, in), w = from_hex(replies, want);
     size_t need = (n + 1) / 2 * 2;
+    bool ok = run_records(b, in, n, got) && w == need && memcmp(got, want, w) == 0;
 
-    copy = *b;
-    memset(got, 0xEE, sizeof got);
-    uint32_t r = plain_trace(&b->t, in, n, got, need, b->page, 256, b->array, b->array_len,
-                             b->registers, b->registers_len, b->counts, b->counts_len,
-                             b->flags, b->flags_len);
-    bool ok = r == 0 && w == need && memcmp(got, want, w) == 0 && got[need] == 0xEE;
     check(ok, what);
     if (!ok) {
         printf("  got");
@@ -138,17 +50,6 @@ static void run(struct bench *b, const char *records, const char *replies, const
             printf(" %02X", got[i]);
         printf("\n");
     }
-    for (size_t i = 0; i < n / 2; i++) {
-        uint32_t e = plain_event(&copy.t, in[2 * i], in[2 * i + 1], copy.page, 256,
-                                 copy.array, copy.array_len, copy.registers, copy.registers_len,
-                                 copy.counts, copy.counts_len, copy.flags, copy.flags_len);
-        ok = ok && got[2 * i] == e >> 8 && got[2 * i + 1] == (e & 0xFF);
-    }
-    check(!ok || (memcmp(&copy.t, &b->t, sizeof copy.t) == 0
-                  && memcmp(copy.array, b->array, sizeof copy.array) == 0
-                  && memcmp(copy.registers, b->registers, sizeof copy.registers) == 0
-                  && memcmp(copy.counts, b->counts, sizeof copy.counts) == 0),
-          "a trace ends as its events one by one");
 }
 
 static void rest(struct bench *b, uint32_t which, size_t start, size_t length, const char *what)
@@ -450,6 +351,45 @@ static void power_ons(struct bench *b)
     check(refused_with(b, 12, 1, 9) == 0 && b->registers[1055] == 0xFF, "unlisted bytes");
 }
 
+/* Rule 13 on the record as it is written here: data out is refused with it, or not. */
+static void usable(struct bench *b, bool good, const char *what)
+{
+    uint32_t reply = plain_event(&b->t, 3, 0, b->page, 256, b->array, b->array_len, b->registers, b->registers_len,
+                                 b->counts, b->counts_len, b->flags, b->flags_len);
+    check((reply != 0x20D) == good, what);
+}
+
+static void numbers(struct bench *b)
+{
+    make_t1(b);
+    b->t.features = 0xFFFE;
+    usable(b, true, "any features but bit 0");
+    b->t.features = 0x0103;
+    usable(b, false, "feature bit 0");
+    b->t.features = 0xFFFC;
+    usable(b, false, "two LUNs without feature bit 1");
+    make_bench(b, 16, 0, 1, 1, 1, 1, 0, 0);
+    usable(b, true, "one LUN without it");
+
+    make_t1(b);
+    b->t.lun[1].copyback = true;
+    usable(b, true, "a copyback open without optional bit 4");
+    b->t.lun[2].copyback = true;
+    usable(b, false, "a copyback of a LUN past the count");
+
+    make_t1(b);
+    b->t.sequence = (struct plain_sequence){.kind = PLAIN_SEQ_COPYBACK, .cycles = 5, .column = 528};
+    usable(b, true, "a copyback's data at P");
+    b->t.sequence = (struct plain_sequence){.kind = PLAIN_SEQ_COPYBACK, .cycles = 5, .column = 529};
+    usable(b, false, "and past it");
+    b->t.sequence = (struct plain_sequence){.kind = PLAIN_SEQ_COPYBACK, .cycles = 5, .page = 4};
+    usable(b, false, "a copyback's page that isn't there");
+    b->t.sequence = (struct plain_sequence){.kind = PLAIN_SEQ_MOVE, .first = 0x85, .lun = 1, .block = 7, .page = 3};
+    usable(b, true, "a move in a copyback");
+    b->t.sequence = (struct plain_sequence){.kind = PLAIN_SEQ_MOVE, .lun = 1, .block = 7, .page = 3};
+    usable(b, false, "a move in no program");
+}
+
 int main(void)
 {
     static struct bench b;
@@ -463,6 +403,7 @@ int main(void)
     rows(&b);
     programs(&b);
     power_ons(&b);
+    numbers(&b);
     printf("%u checks, %u wrong\n", checks, wrong);
     return wrong != 0;
 }

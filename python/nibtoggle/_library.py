@@ -30,6 +30,8 @@ class Target(ctypes.Structure):
     ] + [
         (name, _byte)
         for name in ("maker", "device", "sequence", "first", "got", "low", "mid", "value", "output")
+    ] + [
+        ("copyback", _byte * 4),
     ]
 
 
@@ -103,7 +105,7 @@ class Library:
         self.back_next = self._typed("nib_back_next", ctypes.c_uint64, state + byte)
         self.back_text = self._typed("nib_back_text", _size, state + byte + room)
         self.back_end = self._typed("nib_back_end", _size, state + room)
-        self.say_event = self._typed("nib_say_event", _size, 3 * byte + room)
+        self.say_event = self._typed("nib_say_event", _size, 4 * byte + room)
         self.say_reply = self._typed("nib_say_reply", _size, 2 * byte + [_size] + room)
         self.say_rule = self._typed("nib_say_rule", _size, byte + room)
         self.say_wrong = self._typed("nib_say_wrong", _size, byte + room)

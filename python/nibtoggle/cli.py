@@ -35,8 +35,8 @@ USAGE = """\
 """
 #: A trace is run so many bytes at a time.
 _STRETCH = 1 << 20
-#: enum nib_sequence of the header: row cycles are due. enum nib_output: a register's or a status's bytes come out.
-_ROWS, _OF_A_LUN = 2, (1, 3)
+#: enum nib_sequence of the header: none is open, row cycles are due. enum nib_output: a register's or a status's bytes come out.
+_NO_SEQUENCE, _ROWS, _OF_A_LUN = 0, 2, (1, 3)
 
 
 class WrongCall(Exception):
@@ -161,8 +161,8 @@ def lun_meant(bench: Bench, record: bytes) -> int:
 def explained(bench: Bench, records: bytes, first: int = 1) -> Iterator[str]:
     """What `explain` says of each record, which is run."""
     for number, record in enumerate(text.pairs(records), first):
-        lun = lun_meant(bench, record)
-        yield text.line_of(number, record, bench.trace(record).raw, lun)
+        lun, inside = lun_meant(bench, record), bench.target.sequence != _NO_SEQUENCE
+        yield text.line_of(number, record, bench.trace(record).raw, lun, inside=inside)
 
 
 def explain(words: Sequence[str], out: TextIO) -> int:

@@ -41,7 +41,7 @@ COMMAND, ADDRESS, DATA_IN, DATA_OUT, FINISH, PROTECT = range(6)
 def event_words(kind: int, value: int) -> str:
     """An event for a message, in the library's words, without a command's name: 'command 80h', 'finish LUN 1'."""
     library = Library.any()
-    return library.words(library.say_event, 0, kind, value).split("  ")[0]
+    return library.words(library.say_event, 0, kind, value, 0).split("  ")[0]
 
 
 class Reply(NamedTuple):

@@ -107,17 +107,17 @@ def text_of(records: bytes, library: Optional[Library] = None) -> str:
     return "".join(out)
 
 
-def event_words(kind: int, value: int, library: Optional[Library] = None) -> str:
-    """An event in words: 'command 80h  program', 'finish LUN 1'."""
+def event_words(kind: int, value: int, library: Optional[Library] = None, *, inside: bool = False) -> str:
+    """An event in words: 'command 80h  program', 'finish LUN 1'. `inside` says that a sequence is open where it comes."""
     said = library if library is not None else Library.found()
-    return said.words(said.say_event, 0, kind, value)
+    return said.words(said.say_event, 0, kind, value, int(inside))
 
 
-def line_of(number: int, record: bytes, reply: bytes, lun: int, library: Optional[Library] = None) -> str:
-    """A line of `explain`: the record's number, the event, the answer."""
+def line_of(number: int, record: bytes, reply: bytes, lun: int, library: Optional[Library] = None, *, inside: bool = False) -> str:
+    """A line of `explain`: the record's number, the event, the answer. `inside` says that a sequence was open when it came."""
     said = library if library is not None else Library.found()
     odd = len(record) == 1
-    line = "%6d  %s" % (number, said.words(said.say_event, int(odd), record[0], 0 if odd else record[1]))
+    line = "%6d  %s" % (number, said.words(said.say_event, int(odd), record[0], 0 if odd else record[1], int(inside)))
     return line + " " * max(1, 44 - len(line)) + said.words(said.say_reply, reply[0], reply[1], lun)
 
 

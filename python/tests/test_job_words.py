@@ -102,7 +102,10 @@ def plainly(trace: bytes, part: Optional[Part]) -> Iterator[Tuple[int, str]]:
                     or record == b"\x03\x00" and trace[2 * (at + run):][:2] == b"\x03\x00":
                 run += 1
             many = "data %s, %d bytes" % ("in" if record[0] == 2 else "out", run)
-            yield at + 1, event_words(record) if record[0] == 4 else "no job: " + (many if run > 1 else event_words(record))
+            # 85h moves a column where a program was begun by the last command before it, or went on at one
+            before = [trace[2 * i + 1] for i in range(at) if trace[2 * i] == 0][-1:]
+            one = event_words(record, record == b"\x00\x85" and before in ([0x80], [0x85]))
+            yield at + 1, one if record[0] == 4 else "no job: " + (many if run > 1 else one)
             at += run
 
 
@@ -131,10 +134,10 @@ def job_words(kind: str, row: int, column: int, count: int, part: Optional[Part]
     return words + ("" if there else "; the part has no such place")
 
 
-def event_words(record: bytes) -> str:
+def event_words(record: bytes, inside: bool = False) -> str:
     """As `explain` has it; the words of commands are asked for."""
     from nibtoggle.text import event_words as asked
-    return asked(record[0], record[1])
+    return asked(record[0], record[1], inside=inside)
 
 
 def some_trace(draw: random.Random) -> bytes:

@@ -517,8 +517,8 @@ static void text_and_words(void)
     written += nib_back_end(state, out + written, sizeof out - written);
     same("a trace's text", written == sizeof back - 1 && memcmp(out, back, written) == 0, 1);
     job_words();
-    same("words that have no room", nib_say_event(0, NIB_COMMAND, 0x80, out, 7), 7);
-    same("words to nowhere", nib_say_event(0, NIB_COMMAND, 0x80, NULL, 0), 0);
+    same("words that have no room", nib_say_event(0, NIB_COMMAND, 0x80, 0, out, 7), 7);
+    same("words to nowhere", nib_say_event(0, NIB_COMMAND, 0x80, 0, NULL, 0), 0);
     for (unsigned number = 0; number < 256; number++) {
         size_t said = nib_say_rule((uint8_t)number, out, sizeof out);
         same("one table of words", said == strlen(nib_words(number)) && memcmp(out, nib_words(number), said) == 0, 1);

@@ -7,9 +7,9 @@ use lib.ListN.{set}
 use lib.Dec.{eqb}
 use Rattle.target.specs.Pick.{pick}
 use Rattle.target.specs.Address.{columnFrom, rowFrom, lunOf}
-use Rattle.target.specs.Commands.{takesColumn, takesRow, cyclesOf, thenOf, clearsRegister, firstOf, secondRow}
+use Rattle.target.specs.Commands.{takesColumn, takesRow, cyclesOf, thenOf, clearsRegister, closesCopyback, needsCopyback, firstOf, secondRow}
 use Rattle.target.specs.Views.{completed, taking, ending}
-use Rattle.target.specs.Luns.{lunBegun, lunFinished, lunAt, allReady}
+use Rattle.target.specs.Luns.{lunBegun, lunFinished, lunClosed, lunAt, allReady}
 use Rattle.target.specs.Place.{isOpen}
 use Rattle.target.specs.Events.{isBus, isReset, badRecord}
 use Rattle.target.specs.declared.Column.{Column}
@@ -67,7 +67,7 @@ isMove act.Move = true
 abbrev pub endedSequence : Ender → Sequence
 endedSequence ender.Nothing = Idle
 endedSequence (ender.By k) =
-    pick (isMove (secondRow (k .second) .act)) (Moving (record { row = k .row; got = 0; low = 0 })) Idle
+    pick (isMove (secondRow (k .second) .act)) (Moving (record { first = k .first; row = k .row; got = 0; low = 0 })) Idle
 
 -- the sequence after a command
 abbrev pub commanded : Sequence → ℕ → Sequence
@@ -76,7 +76,7 @@ commanded s v = pick (isOpen s) (endedSequence (ending s v)) (opened (firstOf v)
 -- after its last address cycle a command waits for its second command, for data or for four bytes, or it has ended
 abbrev pub followed : Then → First → Column → Row → Sequence
 followed then.Second f c r = Due (record { first = f; column = c; row = r })
-followed then.Data f c r = Filling (record { row = r; at = c })
+followed then.Data f c r = Filling (record { first = f; row = r; at = c })
 followed then.FeatureIn f c r = Setting (record { got = 0; value = 0 })
 followed then.Status f c r = Idle
 followed then.Id f c r = Idle
@@ -101,14 +101,14 @@ addressed (Single f) v = followed (thenOf f) f (record { 0 = 0 }) (record { 0 = 
 addressed (Due k) v = Due k
 addressed (Filling k) v = Filling k
 addressed (Moving k) v =
-    pick (eqb (k .got) 0) (Moving (record { row = k .row; got = 1; low = v }))
-    (Filling (record { row = k .row; at = columnFrom (k .low) v }))
+    pick (eqb (k .got) 0) (Moving (record { first = k .first; row = k .row; got = 1; low = v }))
+    (Filling (record { first = k .first; row = k .row; at = columnFrom (k .low) v }))
 addressed (Setting k) v = Setting k
 
 -- the sequence after a data-in byte: a program goes one place up; EFh's fourth byte ends it
 abbrev pub filled : Sequence → Taker → ℕ → Sequence
 filled s taker.Nothing v = s
-filled s (taker.Program k) v = Filling (record { row = k .row; at = record { 0 = k .at .0 + 1 } })
+filled s (taker.Program k) v = Filling (record { first = k .first; row = k .row; at = record { 0 = k .at .0 + 1 } })
 filled s (taker.Feature k) v =
     pick (eqb (k .got) 0) (Setting (record { got = 1; value = v }))
     (pick (eqb (k .got) 1) (Setting (record { got = 2; value = k .value }))
@@ -125,9 +125,9 @@ sequenceAfter s e =
 
 -- The output.
 
--- 30h and E0h put out a register from the column on: of the row's LUN, and for 05h, which has no row, of the selected one
+-- 30h, 35h and E0h put out a register from the column on: of the row's LUN, and for 05h, which has no row, of the selected one
 abbrev pub endedLun : Geometry → ℕ → Ended → ℕ
-endedLun g selected k = pick (k .rowed) (lunOf g (k .row)) selected
+endedLun g selected k = pick (takesRow (k .first)) (lunOf g (k .row)) selected
 
 abbrev pub endedOutput : Geometry → ℕ → Ender → Output
 endedOutput g selected ender.Nothing = output.Nothing
@@ -182,26 +182,39 @@ outputAfter g selected d e =
 -- The LUNs.
 
 -- the LUN that the row names works from now on
-abbrev pub begun : Geometry → List Lun → Row → Bool → List Lun
-begun g luns r fail = set luns (lunOf g r) (lunBegun (lunAt luns (lunOf g r)) fail)
+abbrev pub begun : Geometry → List Lun → Row → Bool → Bool → Bool → List Lun
+begun g luns r fail opens closes = set luns (lunOf g r) (lunBegun (lunAt luns (lunOf g r)) fail opens closes)
 
--- a LUN works from 30h, 10h or D0h on; FAIL is 1 where a program or an erase does not proceed, and 0 for a read
+-- 30h and D0h close the LUN's copyback, and so does the 10h of a copyback program
+abbrev pub endCloses : Ended → Bool
+endCloses k = secondRow (k .second) .closes || needsCopyback (k .first)
+
+-- a LUN works from 30h, 35h, 10h or D0h on; FAIL is 1 where a program or an erase does not proceed, and 0 for a read
 abbrev pub endedLuns : Geometry → List Lun → Ender → Findings → List Lun
 endedLuns g luns ender.Nothing found = luns
 endedLuns g luns (ender.By k) found =
-    pick (secondRow (k .second) .starts) (begun g luns (k .row) (not (found .proceeds))) luns
+    pick (secondRow (k .second) .starts) (begun g luns (k .row) (not (found .proceeds)) (secondRow (k .second) .opens) (endCloses k)) luns
 
 -- to its finish event
 abbrev pub finished : List Lun → ℕ → List Lun
 finished luns l = set luns l (lunFinished (lunAt luns l))
 
--- FFh: every LUN ready, FAIL 0
+-- 80h's row closes the copyback of the LUN that it names
+abbrev pub addressedLuns : Geometry → List Lun → Given → List Lun
+addressedLuns g luns given.Nothing = luns
+addressedLuns g luns (given.Column k) = luns
+addressedLuns g luns (given.Row k) =
+    pick (closesCopyback (k .first)) (set luns (lunOf g (k .row)) (lunClosed (lunAt luns (lunOf g (k .row))))) luns
+addressedLuns g luns (given.Single k) = luns
+
+-- FFh: every LUN ready, FAIL 0, no copyback
 unfoldable pub lunsAfter : Geometry → List Lun → Sequence → Event → Findings → List Lun
 lunsAfter g luns s e found =
     pick (isReset e) allReady
     (pick (eqb (e .kind) 0) (endedLuns g luns (ending s (e .value)) found)
+    (pick (eqb (e .kind) 1) (addressedLuns g luns (completed s (e .value)))
     (pick (eqb (e .kind) 4) (finished luns (e .value))
-    luns))
+    luns)))
 
 -- The rest of the record.
 
@@ -270,7 +283,7 @@ targetRefused t e = record {
 
 -- The work.
 
--- 30h loads the page; 10h programs it and D0h erases the block, unless they do not proceed
+-- 30h and 35h load the page; 10h programs it and D0h erases the block, unless they do not proceed
 abbrev pub acted : Act → Row → Findings → Work
 acted act.Nothing r found = work.Nothing
 acted act.Load r found = work.Load r

@@ -11,6 +11,7 @@ use target::commands::Then;
 use target::commands::cycles_of;
 use target::commands::first_of;
 use target::commands::second_row;
+use target::commands::takes_row;
 use target::commands::then_of;
 use target::events::is_reset;
 use target::picks::pick_number;
@@ -29,8 +30,9 @@ ghost use Rattle.effects.specs.Effects.{endedLun, endedOutput, shown, fi
 pub fn ended_lun(g: Geometry, selected: usize, k: Ended) -> usize
     ensures { λ r. ⌜ r ≡ endedLun g selected k ⌝ }
 {
+    let f = k.first;
     let r = k.row;
-    pick_number(k.rowed, lun_of(g, r), selected)
+    pick_number(takes_row(f), lun_of(g, r), selected)
 }
 
 pub fn ended_output(g: Geometry, selected: usize, k: Ender) -> Output

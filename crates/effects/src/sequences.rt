@@ -96,11 +96,13 @@ pub fn ended_sequence(k: Ender) -> Sequence
     match k {
         Ender::Nothing => Sequence::Idle,
         Ender::By(k) => {
+            let first = k.first;
             let second = k.second;
             let row = k.row;
             let about = second_row(second);
             let act = about.act;
             let moved = Moved {
+                first,
                 row,
                 got: 0,
                 low: 0,
@@ -132,7 +134,11 @@ pub fn followed(n: Then, f: First, c: Column, r: Row) -> Sequence
             Sequence::Due(k)
         }
         Then::Data => {
-            let k = Fill { row: r, at: c };
+            let k = Fill {
+                first: f,
+                row: r,
+                at: c,
+            };
             Sequence::Filling(k)
         }
         Then::FeatureIn => {
@@ -200,9 +206,11 @@ pub fn row_cycle(k: RowCycles, v: u8) -> Sequence
 pub fn move_cycle(k: Moved, v: u8) -> Sequence
     ensures { λ r. ⌜ r ≡ addressed (sequence.Moving k) v ⌝ }
 {
+    let first = k.first;
     let row = k.row;
     if k.got == 0 {
         let n = Moved {
+            first,
             row,
             got: 1,
             low: v,
@@ -210,6 +218,7 @@ pub fn move_cycle(k: Moved, v: u8) -> Sequence
         return Sequence::Moving(n);
     }
     let n = Fill {
+        first,
         row,
         at: column_from(k.low, v),
     };
@@ -256,9 +265,11 @@ pub fn filled(s: Sequence, k: Taker, v: u8) -> Sequence
     match k {
         Taker::Nothing => s,
         Taker::Program(k) => {
+            let first = k.first;
             let at = k.at;
             let row = k.row;
             let n = Fill {
+                first,
                 row,
                 at: Column(at.0 + 1),
             };

@@ -18,7 +18,7 @@ use borrow.Author.Tests.{eqb-true, eqb-false, leb-true, le-leb, eq-eqb}
 use Rattle.target.proofs.Both.{both, both3, both4, both5}
 use Rattle.target.specs.Pick.{pick}
 use Rattle.target.specs.Commands.{placeOf}
-use Rattle.target.specs.Luns.{lunReady, works, failed}
+use Rattle.target.specs.Luns.{lunReady, works, failed, copybackAt}
 use Rattle.target.specs.declared.Lun.{Lun}
 use Rattle.target.specs.declared.First.{First}
 use Rattle.target.specs.declared.First.the-variants as first
@@ -35,7 +35,7 @@ use Rattle.step.specs.Step.{Buffers, Outcome, steady, stepOf}
 use Rattle.host.specs.declared.numbers.Cycles.{Cycles}
 use Rattle.host.specs.declared.numbers.Place.{Place}
 use Rattle.host.specs.declared.Image.{Image}
-use Rattle.host.specs.Numbers.{markByte, isSet, firstAt, sequenceOf, cyclesOf, outputOf, outputPlace, lunsOf, workingOf, failOf, sameCycles, samePlace, fourMarks}
+use Rattle.host.specs.Numbers.{markByte, isSet, firstAt, sequenceOf, cyclesOf, outputOf, outputPlace, lunsOf, workingOf, failOf, copybackOf, sameCycles, samePlace, fourMarks}
 use Rattle.host.specs.Image.{cyclesIn, placeIn, unpacked, imageFrom, packed, marksGood, good, taken, putBack, replyNumber, HostEvent, evented, eventOn}
 
 mark-back : (b : Bool) → isSet (markByte b) ≡ b
@@ -58,6 +58,7 @@ first-back first.ReadId = refl
 first-back first.ParameterPage = refl
 first-back first.GetFeatures = refl
 first-back first.SetFeatures = refl
+first-back first.CopybackProgram = refl
 
 sequence-back : (s : Sequence) → sequenceOf (cyclesOf s) ≡ s
 sequence-back Idle = refl
@@ -65,8 +66,8 @@ sequence-back (Columns k) = ap (λ (x : First). Columns (record { first = x; got
 sequence-back (Rows k) = ap (λ (x : First). Rows (record { first = x; column = k .column; got = k .got; low = k .low; mid = k .mid })) (first-back (k .first))
 sequence-back (Single f) = ap Single (first-back f)
 sequence-back (Due k) = ap (λ (x : First). Due (record { first = x; column = k .column; row = k .row })) (first-back (k .first))
-sequence-back (Filling k) = refl
-sequence-back (Moving k) = refl
+sequence-back (Filling k) = ap (λ (x : First). Filling (record { first = x; row = k .row; at = k .at })) (first-back (k .first))
+sequence-back (Moving k) = ap (λ (x : First). Moving (record { first = x; row = k .row; got = k .got; low = k .low })) (first-back (k .first))
 sequence-back (Setting k) = refl
 
 output-back : (x : Output) → outputOf (outputPlace x) ≡ x
@@ -87,13 +88,13 @@ four x (a ∷ b ∷ c ∷ []) h = absurd (omega arith)
 four x (a ∷ b ∷ c ∷ d ∷ []) h = refl
 four x (a ∷ b ∷ c ∷ d ∷ e ∷ xs) h = absurd (omega arith)
 
-luns-back : (ls : List Lun) → length ls ≡ 4 → lunsOf (workingOf ls) (failOf ls) ≡ ls
+luns-back : (ls : List Lun) → length ls ≡ 4 → lunsOf (workingOf ls) (failOf ls) (copybackOf ls) ≡ ls
 luns-back ls h =
     (λ j.
-    record { working = mark-back (works ls 0) j; fail = mark-back (failed ls 0) j }
-    ∷ record { working = mark-back (works ls 1) j; fail = mark-back (failed ls 1) j }
-    ∷ record { working = mark-back (works ls 2) j; fail = mark-back (failed ls 2) j }
-    ∷ record { working = mark-back (works ls 3) j; fail = mark-back (failed ls 3) j }
+    record { working = mark-back (works ls 0) j; fail = mark-back (failed ls 0) j; copyback = mark-back (copybackAt ls 0) j }
+    ∷ record { working = mark-back (works ls 1) j; fail = mark-back (failed ls 1) j; copyback = mark-back (copybackAt ls 1) j }
+    ∷ record { working = mark-back (works ls 2) j; fail = mark-back (failed ls 2) j; copyback = mark-back (copybackAt ls 2) j }
+    ∷ record { working = mark-back (works ls 3) j; fail = mark-back (failed ls 3) j; copyback = mark-back (copybackAt ls 3) j }
     ∷ [])
     ∙ four lunReady ls h
 
@@ -137,11 +138,15 @@ fail-small : (ls : List Lun) → fourMarks (failOf ls) ≡ true
 unfolding fourMarks
 fail-small ls = and (and (and (mark-small (failed ls 0)) (mark-small (failed ls 1))) (mark-small (failed ls 2))) (mark-small (failed ls 3))
 
+copyback-small : (ls : List Lun) → fourMarks (copybackOf ls) ≡ true
+unfolding fourMarks
+copyback-small ls = and (and (and (mark-small (copybackAt ls 0)) (mark-small (copybackAt ls 1))) (mark-small (copybackAt ls 2))) (mark-small (copybackAt ls 3))
+
 marks-small : (t : Target) → marksGood (packed t) ≡ true
 unfolding marksGood packed
 marks-small t =
-    and (and (and (and (and (mark-small (t .powered)) (mark-small (t .high))) (mark-small (t .clear))) (mark-small (t .seen)))
-    (working-small (t .luns))) (fail-small (t .luns))
+    and (and (and (and (and (and (mark-small (t .powered)) (mark-small (t .high))) (mark-small (t .clear))) (mark-small (t .seen)))
+    (working-small (t .luns))) (fail-small (t .luns))) (copyback-small (t .luns))
 
 packed-cycles : (t : Target) → cyclesIn (packed t) ≡ cyclesOf (t .decoder .sequence)
 unfolding cyclesIn packed
@@ -195,26 +200,39 @@ same-place a b h =
     let p = both3 (eqb (a .kind) (b .kind)) (eqb (a .lun) (b .lun)) (eqb (a .at) (b .at)) h in
     λ j. record { kind = eqb-true (a .kind) (b .kind) (p .0) j; lun = eqb-true (a .lun) (b .lun) (p .1) j; at = eqb-true (a .at) (b .at) (p .2) j }
 
-working-back : (w f : List ℕ) → length w ≡ 4 → fourMarks w ≡ true → workingOf (lunsOf w f) ≡ w
+working-back : (w f c : List ℕ) → length w ≡ 4 → fourMarks w ≡ true → workingOf (lunsOf w f c) ≡ w
 unfolding fourMarks
-working-back w f l h =
+working-back w f c l h =
     let p = both4 (leb (getD w 0 0) 1) (leb (getD w 1 0) 1) (leb (getD w 2 0) 1) (leb (getD w 3 0) 1) h in
     (λ j. mark-fits (getD w 0 0) (p .0) j ∷ mark-fits (getD w 1 0) (p .1) j ∷ mark-fits (getD w 2 0) (p .2) j ∷ mark-fits (getD w 3 0) (p .3) j ∷ []) ∙ four 0 w l
 
-fail-back : (w f : List ℕ) → length f ≡ 4 → fourMarks f ≡ true → failOf (lunsOf w f) ≡ f
+fail-back : (w f c : List ℕ) → length f ≡ 4 → fourMarks f ≡ true → failOf (lunsOf w f c) ≡ f
 unfolding fourMarks
-fail-back w f l h =
+fail-back w f c l h =
     let p = both4 (leb (getD f 0 0) 1) (leb (getD f 1 0) 1) (leb (getD f 2 0) 1) (leb (getD f 3 0) 1) h in
     (λ j. mark-fits (getD f 0 0) (p .0) j ∷ mark-fits (getD f 1 0) (p .1) j ∷ mark-fits (getD f 2 0) (p .2) j ∷ mark-fits (getD f 3 0) (p .3) j ∷ []) ∙ four 0 f l
 
+copyback-back : (w f c : List ℕ) → length c ≡ 4 → fourMarks c ≡ true → copybackOf (lunsOf w f c) ≡ c
+unfolding fourMarks
+copyback-back w f c l h =
+    let p = both4 (leb (getD c 0 0) 1) (leb (getD c 1 0) 1) (leb (getD c 2 0) 1) (leb (getD c 3 0) 1) h in
+    (λ j. mark-fits (getD c 0 0) (p .0) j ∷ mark-fits (getD c 1 0) (p .1) j ∷ mark-fits (getD c 2 0) (p .2) j ∷ mark-fits (getD c 3 0) (p .3) j ∷ []) ∙ four 0 c l
+
+-- four marks of each kind
+pub record FourMarks (i : Image) : Type 0 where
+  pub working : length (i .working) ≡ 4
+  pub fail : length (i .fail) ≡ 4
+  pub copyback : length (i .copyback) ≡ 4
+
 -- what can be unpacked packs back to itself
-pub image-back : (i : Image) → length (i .working) ≡ 4 → length (i .fail) ≡ 4 → good i ≡ true → packed (unpacked i) ≡ i
+pub image-back : (i : Image) → FourMarks i → good i ≡ true → packed (unpacked i) ≡ i
 unfolding good marksGood packed unpacked cyclesIn placeIn
-image-back i lw lf h =
+image-back i l h =
     let g = both3 (marksGood i) (sameCycles (cyclesIn i) (cyclesOf (sequenceOf (cyclesIn i)))) (samePlace (placeIn i) (outputPlace (outputOf (placeIn i)))) h in
     let cycles = sym (same-cycles (cyclesIn i) (cyclesOf (sequenceOf (cyclesIn i))) (g .1)) in
     let place = sym (same-place (placeIn i) (outputPlace (outputOf (placeIn i))) (g .2)) in
-    let m5 = both (leb (i .powered) 1 && leb (i .high) 1 && leb (i .clear) 1 && leb (i .seen) 1 && fourMarks (i .working)) (fourMarks (i .fail)) (g .0) in
+    let m6 = both (leb (i .powered) 1 && leb (i .high) 1 && leb (i .clear) 1 && leb (i .seen) 1 && fourMarks (i .working) && fourMarks (i .fail)) (fourMarks (i .copyback)) (g .0) in
+    let m5 = both (leb (i .powered) 1 && leb (i .high) 1 && leb (i .clear) 1 && leb (i .seen) 1 && fourMarks (i .working)) (fourMarks (i .fail)) (m6 .0) in
     let m4 = both5 (leb (i .powered) 1) (leb (i .high) 1) (leb (i .clear) 1) (leb (i .seen) 1) (fourMarks (i .working)) (m5 .0) in
     λ j. record {
       «data_bytes» = i .«data_bytes»;
@@ -234,8 +252,8 @@ image-back i lw lf h =
       high = mark-fits (i .high) (m4 .1) j;
       clear = mark-fits (i .clear) (m4 .2) j;
       seen = mark-fits (i .seen) (m4 .3) j;
-      working = working-back (i .working) (i .fail) lw (m4 .4) j;
-      fail = fail-back (i .working) (i .fail) lf (m5 .1) j;
+      working = working-back (i .working) (i .fail) (i .copyback) (l .working) (m4 .4) j;
+      fail = fail-back (i .working) (i .fail) (i .copyback) (l .fail) (m5 .1) j;
       maker = i .maker;
       device = i .device;
       sequence = cycles j .kind;
@@ -245,18 +263,19 @@ image-back i lw lf h =
       mid = cycles j .mid;
       value = cycles j .value;
       output = place j .kind;
+      copyback = copyback-back (i .working) (i .fail) (i .copyback) (l .copyback) (m6 .1) j;
     }
 
 -- a record that is taken out and put back unchanged is as it was, whatever its numbers
-pub kept-image : (i : Image) → length (i .working) ≡ 4 → length (i .fail) ≡ 4 → putBack i (taken i) ≡ i
+pub kept-image : (i : Image) → FourMarks i → putBack i (taken i) ≡ i
 unfolding putBack taken
-kept-image i lw lf = by (good i) refl where
+kept-image i l = by (good i) refl where
   by : (b : Bool) → good i ≡ b → putBack i (taken i) ≡ i
-  by true e = ap (λ (g : Bool). pick g (packed (pick g (unpacked i) unpowered)) i) e ∙ image-back i lw lf e
+  by true e = ap (λ (g : Bool). pick g (packed (pick g (unpacked i) unpowered)) i) e ∙ image-back i l e
   by false e = ap (λ (g : Bool). pick g (packed (pick g (unpacked i) unpowered)) i) e
 
 -- an event that rule 13 refuses changes no number of the record and no lent byte
-module _ (i : Image) (page : List ℕ) (b : Buffers) (flags : List ℕ) (lw : length (i .working) ≡ 4) (lf : length (i .fail) ≡ 4) where
+module _ (i : Image) (page : List ℕ) (b : Buffers) (flags : List ℕ) (l : FourMarks i) where
   abbrev Usable : Target → Bool
   Usable t = usable t (length page) (length (b .array)) (length (b .registers)) (length (b .counts)) (length flags)
 
@@ -264,7 +283,7 @@ module _ (i : Image) (page : List ℕ) (b : Buffers) (flags : List ℕ) (lw : le
   unfolding eventOn stepOf replyNumber
   kept-event kind value h =
       ap (λ (g : Bool). evented i (pick g (steady (taken i) (record { kind = kind; value = value }) page b flags) (record { reply = reply.Refused refusal.NotUsable; target = taken i; buffers = b }))) h
-      ∙ (λ j. record { answer = 525; image = kept-image i lw lf j; buffers = b })
+      ∙ (λ j. record { answer = 525; image = kept-image i l j; buffers = b })
 
   -- numbers that no record packs to are never usable
   pub bad-taken : good i ≡ false → taken i ≡ unpowered

@@ -18,7 +18,7 @@ use Rattle.unread.specs.declared.Unread.{Unread}
 use Rattle.host.specs.declared.numbers.Cycles.{Cycles}
 use Rattle.host.specs.declared.numbers.Place.{Place}
 use Rattle.host.specs.declared.Image.{Image}
-use Rattle.host.specs.Numbers.{markByte, isSet, sequenceOf, cyclesOf, outputOf, outputPlace, lunsOf, workingOf, failOf, sameCycles, samePlace, fourMarks}
+use Rattle.host.specs.Numbers.{markByte, isSet, sequenceOf, cyclesOf, outputOf, outputPlace, lunsOf, workingOf, failOf, copybackOf, sameCycles, samePlace, fourMarks}
 
 -- the numbers of the open sequence and of the output
 unfoldable pub cyclesIn : Image → Cycles
@@ -54,7 +54,7 @@ unpacked i = record {
   clear = isSet (i .clear);
   seen = isSet (i .seen);
   selected = i .selected;
-  luns = lunsOf (i .working) (i .fail);
+  luns = lunsOf (i .working) (i .fail) (i .copyback);
   decoder = record { sequence = sequenceOf (cyclesIn i); output = outputOf (placeIn i) };
 }
 
@@ -88,6 +88,7 @@ imageFrom t c p = record {
   mid = c .mid;
   value = c .value;
   output = p .kind;
+  copyback = copybackOf (t .luns);
 }
 
 unfoldable pub packed : Target → Image
@@ -102,6 +103,7 @@ marksGood i =
     && leb (i .seen) 1
     && fourMarks (i .working)
     && fourMarks (i .fail)
+    && fourMarks (i .copyback)
 
 -- the numbers are those that some record packs to: every mark is 0 or 1, every kind is one that there is, and what the
 -- present sequence and output have not is 0

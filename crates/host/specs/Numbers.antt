@@ -6,7 +6,7 @@ use lib.ListN.{getD}
 use lib.Dec.{eqb, leb}
 use Rattle.target.specs.Pick.{pick}
 use Rattle.target.specs.Commands.{placeOf, firstCommands}
-use Rattle.target.specs.Luns.{works, failed}
+use Rattle.target.specs.Luns.{works, failed, copybackAt}
 use Rattle.target.specs.declared.Lun.{Lun}
 use Rattle.target.specs.declared.First.{First}
 use Rattle.target.specs.declared.First.the-variants as first
@@ -40,8 +40,10 @@ cyclesOf (Rows k) =
 cyclesOf (Single f) = record { kind = 3; first = placeOf f; got = 0; low = 0; mid = 0; value = 0; column = 0; row = 0 }
 cyclesOf (Due k) =
     record { kind = 4; first = placeOf (k .first); got = 0; low = 0; mid = 0; value = 0; column = k .column .0; row = k .row .0 }
-cyclesOf (Filling k) = record { kind = 5; first = 0; got = 0; low = 0; mid = 0; value = 0; column = k .at .0; row = k .row .0 }
-cyclesOf (Moving k) = record { kind = 6; first = 0; got = k .got; low = k .low; mid = 0; value = 0; column = 0; row = k .row .0 }
+cyclesOf (Filling k) =
+    record { kind = 5; first = placeOf (k .first); got = 0; low = 0; mid = 0; value = 0; column = k .at .0; row = k .row .0 }
+cyclesOf (Moving k) =
+    record { kind = 6; first = placeOf (k .first); got = k .got; low = k .low; mid = 0; value = 0; column = 0; row = k .row .0 }
 cyclesOf (Setting k) = record { kind = 7; first = 0; got = k .got; low = 0; mid = 0; value = k .value; column = 0; row = 0 }
 
 -- back; a kind above 7 is read as no sequence, and then the numbers are not what it packs to
@@ -52,8 +54,8 @@ sequenceOf c =
     (Rows (record { first = firstAt (c .first); column = record { 0 = c .column }; got = c .got; low = c .low; mid = c .mid }))
     (pick (eqb (c .kind) 3) (Single (firstAt (c .first)))
     (pick (eqb (c .kind) 4) (Due (record { first = firstAt (c .first); column = record { 0 = c .column }; row = record { 0 = c .row } }))
-    (pick (eqb (c .kind) 5) (Filling (record { row = record { 0 = c .row }; at = record { 0 = c .column } }))
-    (pick (eqb (c .kind) 6) (Moving (record { row = record { 0 = c .row }; got = c .got; low = c .low }))
+    (pick (eqb (c .kind) 5) (Filling (record { first = firstAt (c .first); row = record { 0 = c .row }; at = record { 0 = c .column } }))
+    (pick (eqb (c .kind) 6) (Moving (record { first = firstAt (c .first); row = record { 0 = c .row }; got = c .got; low = c .low }))
     (pick (eqb (c .kind) 7) (Setting (record { got = c .got; value = c .value })) Idle))))))
 
 -- the output; what it has not is 0
@@ -76,13 +78,13 @@ outputOf p =
     (pick (eqb (p .kind) 6) (output.Feature (p .at)) output.Nothing)))))
 
 -- the marks of the four LUN records
-abbrev pub lunOf : ℕ → ℕ → Lun
-lunOf working fail = record { working = isSet working; fail = isSet fail }
+abbrev pub lunOf : ℕ → ℕ → ℕ → Lun
+lunOf working fail copyback = record { working = isSet working; fail = isSet fail; copyback = isSet copyback }
 
-abbrev pub lunsOf : List ℕ → List ℕ → List Lun
-lunsOf w f =
-    lunOf (getD w 0 0) (getD f 0 0) ∷ lunOf (getD w 1 0) (getD f 1 0) ∷ lunOf (getD w 2 0) (getD f 2 0)
-    ∷ lunOf (getD w 3 0) (getD f 3 0) ∷ []
+abbrev pub lunsOf : List ℕ → List ℕ → List ℕ → List Lun
+lunsOf w f c =
+    lunOf (getD w 0 0) (getD f 0 0) (getD c 0 0) ∷ lunOf (getD w 1 0) (getD f 1 0) (getD c 1 0)
+    ∷ lunOf (getD w 2 0) (getD f 2 0) (getD c 2 0) ∷ lunOf (getD w 3 0) (getD f 3 0) (getD c 3 0) ∷ []
 
 abbrev pub workingOf : List Lun → List ℕ
 workingOf luns =
@@ -91,6 +93,11 @@ workingOf luns =
 abbrev pub failOf : List Lun → List ℕ
 failOf luns =
     markByte (failed luns 0) ∷ markByte (failed luns 1) ∷ markByte (failed luns 2) ∷ markByte (failed luns 3) ∷ []
+
+abbrev pub copybackOf : List Lun → List ℕ
+copybackOf luns =
+    markByte (copybackAt luns 0) ∷ markByte (copybackAt luns 1) ∷ markByte (copybackAt luns 2)
+    ∷ markByte (copybackAt luns 3) ∷ []
 
 -- the same numbers
 unfoldable pub sameCycles : Cycles → Cycles → Bool

@@ -10,6 +10,7 @@ use numbers::Place;
 use numbers::four_marks;
 use numbers::is_set;
 use numbers::mark_byte;
+use numbers::of_copyback;
 use numbers::of_fail;
 use numbers::of_output;
 use numbers::of_sequence;
@@ -71,6 +72,7 @@ pub struct Image {
     pub mid: u8,
     pub value: u8,
     pub output: u8,
+    pub copyback: [u8; 4],
 }
 
 pub fn cycles_in(i: Image) -> Cycles
@@ -120,7 +122,8 @@ pub fn unpack(i: Image) -> Target
     };
     let working = i.working;
     let fail = i.fail;
-    let luns = to_luns(working, fail);
+    let copyback = i.copyback;
+    let luns = to_luns(working, fail, copyback);
     let sequence = to_sequence(cycles_in(i));
     let output = to_output(place_in(i));
     let decoder = Decoder { sequence, output };
@@ -147,6 +150,7 @@ fn image_from(t: Target, c: Cycles, p: Place) -> Image
     let luns = t.luns;
     let working = of_working(luns);
     let fail = of_fail(luns);
+    let copyback = of_copyback(luns);
     Image {
         data_bytes: g.bytes,
         spare_bytes: g.spare,
@@ -176,6 +180,7 @@ fn image_from(t: Target, c: Cycles, p: Place) -> Image
         mid: c.mid,
         value: c.value,
         output: p.kind,
+        copyback,
     }
 }
 
@@ -195,12 +200,14 @@ fn marks_good(i: Image) -> bool
 {
     let working = i.working;
     let fail = i.fail;
+    let copyback = i.copyback;
     (i.powered <= 1)
         & (i.high <= 1)
         & (i.clear <= 1)
         & (i.seen <= 1)
         & four_marks(working)
         & four_marks(fail)
+        & four_marks(copyback)
 }
 
 // The numbers are those that some record packs to.

@@ -15,11 +15,12 @@ use target::Wait;
 use target::commands::place_of;
 use target::picks::pick_output;
 use target::picks::pick_sequence;
+use target::records::copyback_at;
 use target::records::failed;
 use target::records::works;
 ghost use mathlib.Core.Path.{_≡_};
 ghost use Rattle.target.specs.Commands.{placeOf};
-ghost use Rattle.host.specs.Numbers.{markByte, isSet, firstAt, sequenceOf, cyclesOf, outputOf, outputPlace, lunOf, lunsOf, workingOf, failOf, sameCycles, samePlace, fourMarks};
+ghost use Rattle.host.specs.Numbers.{markByte, isSet, firstAt, sequenceOf, cyclesOf, outputOf, outputPlace, lunOf, lunsOf, workingOf, failOf, copybackOf, sameCycles, samePlace, fourMarks};
 
 // The open sequence as numbers; what it has not is 0.
 pub struct Cycles {
@@ -65,7 +66,7 @@ pub fn first_number(f: First) -> u8
 }
 
 // The first commands in the list's order.
-const FIRST_COMMANDS: [First; 11] = [
+const FIRST_COMMANDS: [First; 12] = [
     First::Read,
     First::ChangeColumn,
     First::ChangeColumnEnhanced,
@@ -77,6 +78,7 @@ const FIRST_COMMANDS: [First; 11] = [
     First::ParameterPage,
     First::GetFeatures,
     First::SetFeatures,
+    First::CopybackProgram,
 ];
 
 // The first command at a place of the list; one that is not there is read as the first, and then the numbers are not what it
@@ -85,7 +87,7 @@ pub fn first_at(n: u8) -> First
     ensures { λ r. ⌜ r ≡ firstAt n ⌝ }
 {
     let i = n as usize;
-    if i < 11 {
+    if i < 12 {
         FIRST_COMMANDS[i]
     } else {
         First::Read
@@ -112,8 +114,13 @@ pub fn to_sequence(c: Cycles) -> Sequence
         mid: c.mid,
     };
     let due = Wait { first, column, row };
-    let filling = Fill { row, at: column };
+    let filling = Fill {
+        first,
+        row,
+        at: column,
+    };
     let moving = Moved {
+        first,
         row,
         got: c.got,
         low: c.low,
@@ -198,11 +205,12 @@ pub fn of_sequence(s: Sequence) -> Cycles
             }
         }
         Sequence::Filling(k) => {
+            let first = k.first;
             let column = k.at;
             let row = k.row;
             Cycles {
                 kind: 5,
-                first: 0,
+                first: first_number(first),
                 got: 0,
                 low: 0,
                 mid: 0,
@@ -212,10 +220,11 @@ pub fn of_sequence(s: Sequence) -> Cycles
             }
         }
         Sequence::Moving(k) => {
+            let first = k.first;
             let row = k.row;
             Cycles {
                 kind: 6,
-                first: 0,
+                first: first_number(first),
                 got: k.got,
                 low: k.low,
                 mid: 0,
@@ -317,22 +326,23 @@ pub fn same_place(a: Place, b: Place) -> bool
     (a.kind == b.kind) & (a.lun == b.lun) & (a.at == b.at)
 }
 
-fn lun_of(working: u8, fail: u8) -> Lun
-    ensures { λ r. ⌜ r ≡ lunOf working fail ⌝ }
+fn lun_of(working: u8, fail: u8, copyback: u8) -> Lun
+    ensures { λ r. ⌜ r ≡ lunOf working fail copyback ⌝ }
 {
     Lun {
         working: is_set(working),
         fail: is_set(fail),
+        copyback: is_set(copyback),
     }
 }
 
-pub fn to_luns(working: Marks, fail: Marks) -> Luns
-    ensures { λ r. ⌜ r ≡ lunsOf working fail ⌝ }
+pub fn to_luns(working: Marks, fail: Marks, copyback: Marks) -> Luns
+    ensures { λ r. ⌜ r ≡ lunsOf working fail copyback ⌝ }
 {
-    let a = lun_of(working[0], fail[0]);
-    let b = lun_of(working[1], fail[1]);
-    let c = lun_of(working[2], fail[2]);
-    let d = lun_of(working[3], fail[3]);
+    let a = lun_of(working[0], fail[0], copyback[0]);
+    let b = lun_of(working[1], fail[1], copyback[1]);
+    let c = lun_of(working[2], fail[2], copyback[2]);
+    let d = lun_of(working[3], fail[3], copyback[3]);
     [a, b, c, d]
 }
 
@@ -353,6 +363,16 @@ pub fn of_fail(luns: Luns) -> Marks
     let b = mark_byte(failed(luns, 1));
     let c = mark_byte(failed(luns, 2));
     let d = mark_byte(failed(luns, 3));
+    [a, b, c, d]
+}
+
+pub fn of_copyback(luns: Luns) -> Marks
+    ensures { λ r. ⌜ r ≡ copybackOf luns ⌝ }
+{
+    let a = mark_byte(copyback_at(luns, 0));
+    let b = mark_byte(copyback_at(luns, 1));
+    let c = mark_byte(copyback_at(luns, 2));
+    let d = mark_byte(copyback_at(luns, 3));
     [a, b, c, d]
 }
 

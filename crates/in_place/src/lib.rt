@@ -53,7 +53,7 @@ pub fn step_lent(
 }
 
 // What a batch does with the event at place `i`: the step, and its two reply bytes.
-pub fn run_one(
+fn run_one(
     t: Target,
     e: Event,
     i: usize,

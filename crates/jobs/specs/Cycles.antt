@@ -32,17 +32,23 @@ two c cs = address (c .low) ∷ (address (c .high) ∷ cs)
 abbrev pub three : RowBytes → List Cycle → List Cycle
 three r cs = address (r .low) ∷ (address (r .mid) ∷ (address (r .high) ∷ cs))
 
--- read: 00h, five addresses, 30h
+-- read: 00h, five addresses, 30h; 35h in its place opens a copyback too (document 02, A1)
+abbrev pub readBy : ℕ → ColumnBytes → RowBytes → List Cycle
+readBy second c r = command 0x00 ∷ two c (three r (command second ∷ []))
+
 abbrev pub readCycles : ColumnBytes → RowBytes → List Cycle
-readCycles c r = command 0x00 ∷ two c (three r (command 0x30 ∷ []))
+readCycles = readBy 0x30
 
 -- read-out: 06h, five, E0h, any number of data out
 abbrev pub readOutCycles : ColumnBytes → RowBytes → ℕ → List Cycle
 readOutCycles c r n = command 0x06 ∷ two c (three r (command 0xe0 ∷ replicate n dataOut))
 
--- program: 80h, five, what it is given, 10h
+-- program: 80h, five, what it is given, 10h; 85h in its place programs a copyback
+abbrev pub programBy : ℕ → ColumnBytes → RowBytes → List Cycle → List Cycle
+programBy first c r given = command first ∷ two c (three r (given ++ (command 0x10 ∷ [])))
+
 abbrev pub programCycles : ColumnBytes → RowBytes → List Cycle → List Cycle
-programCycles c r given = command 0x80 ∷ two c (three r (given ++ (command 0x10 ∷ [])))
+programCycles = programBy 0x80
 
 -- erase: 60h, three, D0h
 abbrev pub eraseCycles : RowBytes → List Cycle

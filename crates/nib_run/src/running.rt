@@ -31,6 +31,7 @@ use nib_text::reading::up;
 use power::PowerAnswer;
 use target::Event;
 use target::Target;
+use target::place::is_open;
 
 // How far a trace has come.
 pub struct Stream {
@@ -73,7 +74,9 @@ fn explained(
 ) -> Pen {
     let p = ranked(out, p, number);
     let p = text(out, p, b"  ");
-    let p = event(out, p, odd, e.kind, e.value);
+    let d = t.decoder;
+    let s = d.sequence;
+    let p = event(out, p, odd, e.kind, e.value, is_open(s));
     let p = pad(out, p, 43);
     let p = reply(out, p, room[0], room[1], lun_meant(t, e));
     end_line(out, p)

@@ -11,17 +11,18 @@ use Rattle.target.specs.declared.Target.{Target}
 use Rattle.target.specs.declared.Refusal.{Refusal}
 use Rattle.target.specs.declared.Verdict.{Verdict}
 use Rattle.target.specs.declared.Verdict.the-variants.{Accepted}
-use Rattle.rules.specs.Rules.{unknown, beforeReset, misplaced, outOfRange, lunWorks, othersBusy, lineLow, pastEnd, notOffered, notWorking, lineHeld, rules, verdict}
+use Rattle.rules.specs.Rules.{unknown, beforeReset, misplaced, outOfRange, lunWorks, noCopyback, othersBusy, lineLow, pastEnd, notOffered, notWorking, lineHeld, rules, verdict}
 
 pub record Passed (t : Target) (e : Event) : Type 0 where
   pub rule-12 : badRecord e ≡ false
   pub rule-2 : beforeReset (t .seen) e ≡ false
-  pub rule-1 : unknown (t .words) e ≡ false
+  pub rule-1 : unknown (t .words) (t .decoder .sequence) e ≡ false
   pub rule-3 : misplaced (t .decoder) e ≡ false
   pub rule-6 : othersBusy (t .luns) (t .selected) e ≡ false
   pub rule-4 : outOfRange (t .geometry) (t .decoder .sequence) e ≡ false
   pub rule-9 : notOffered (t .words) (t .decoder .sequence) e ≡ false
   pub rule-5 : lunWorks (t .geometry) (t .luns) (t .selected) (t .decoder) e ≡ false
+  pub rule-14 : noCopyback (t .geometry) (t .luns) (t .decoder .sequence) e ≡ false
   pub rule-7 : lineLow (t .high) e ≡ false
   pub rule-8 : pastEnd (t .geometry) (t .decoder) e ≡ false
   pub rule-10 : notWorking (t .geometry) (t .luns) e ≡ false
@@ -43,7 +44,8 @@ all-passed t e h =
     let p4 = passed _ _ _ (p6 .1) in
     let p9 = passed _ _ _ (p4 .1) in
     let p5 = passed _ _ _ (p9 .1) in
-    let p7 = passed _ _ _ (p5 .1) in
+    let p14 = passed _ _ _ (p5 .1) in
+    let p7 = passed _ _ _ (p14 .1) in
     let p8 = passed _ _ _ (p7 .1) in
     let p10 = passed _ _ _ (p8 .1) in
     let p11 = passed _ _ _ (p10 .1) in
@@ -56,6 +58,7 @@ all-passed t e h =
       rule-4 = p4 .0;
       rule-9 = p9 .0;
       rule-5 = p5 .0;
+      rule-14 = p14 .0;
       rule-7 = p7 .0;
       rule-8 = p8 .0;
       rule-10 = p10 .0;

@@ -1,4 +1,4 @@
--- Which rule refuses an event (document 01, "Refusal numbers"): one definition for each number, and their list in the document's
+-- Which rule refuses an event (document 01, "Refusal numbers"; document 02, A1): one definition for each number, and their list in the document's
 -- order. `verdict` is the first of the list that holds.
 use Prim.Native.Nat.{ℕ}
 use mathlib.Core.Bool.{Bool, true, false, _&&_, _||_, not}
@@ -8,9 +8,9 @@ use Rattle.target.specs.Pick.{pick, orElse}
 use Rattle.target.specs.Words.{hasFeature}
 use Rattle.target.specs.Sizes.{pageSize}
 use Rattle.target.specs.Address.{lunOf, lunExists, blockExists, rowExists}
-use Rattle.target.specs.Commands.{classOf, isKnown, offered, firstOf, secondOf, secondRow, looksOf, needsReady, waitsFor, knowsAddress}
+use Rattle.target.specs.Commands.{classOf, isKnown, offered, firstOf, secondOf, secondRow, looksOf, needsReady, waitsFor, needsCopyback, knowsAddress}
 use Rattle.target.specs.Views.{completed, taking}
-use Rattle.target.specs.Luns.{works, anyWorks, othersWork}
+use Rattle.target.specs.Luns.{works, copybackAt, anyWorks, othersWork}
 use Rattle.target.specs.Events.{isBus, isReset, badRecord}
 use Rattle.target.specs.Place.{isOpen, takesCommand, takesAddress, takesData, hasOutput}
 use Rattle.target.specs.declared.Event.{Event}
@@ -37,13 +37,13 @@ use Rattle.target.specs.declared.views.Given.the-variants as given
 use Rattle.target.specs.declared.views.Taker.{Taker}
 use Rattle.target.specs.declared.views.Taker.the-variants as taker
 use Rattle.target.specs.declared.Refusal.{Refusal}
-use Rattle.target.specs.declared.Refusal.the-variants.{Unknown, BeforeReset, Misplaced, OutOfRange, LunWorks, OthersWork, Protected, PastEnd, NotOffered, NotWorking, LineHeld, BadRecord}
+use Rattle.target.specs.declared.Refusal.the-variants.{Unknown, BeforeReset, Misplaced, OutOfRange, LunWorks, OthersWork, Protected, PastEnd, NotOffered, NotWorking, LineHeld, BadRecord, NoCopyback}
 use Rattle.target.specs.declared.Verdict.{Verdict}
 use Rattle.target.specs.declared.Verdict.the-variants.{Accepted}
 
--- 1: command byte not listed; or 78h, 06h, EEh/EFh whose optional bit is 0
-unfoldable pub unknown : Words → Event → Bool
-unknown w e = eqb (e .kind) 0 && not (isKnown (classOf (e .value)) && offered w (e .value))
+-- 1: command byte not listed; or 78h, 06h, EEh/EFh, 35h, or 85h with no sequence open, whose optional bit is 0
+unfoldable pub unknown : Words → Sequence → Event → Bool
+unknown w s e = eqb (e .kind) 0 && not (isKnown (classOf (e .value)) && offered w (isOpen s) (e .value))
 
 -- 2: bus cycle other than FFh before the first FFh
 unfoldable pub beforeReset : Bool → Event → Bool
@@ -99,10 +99,21 @@ outputWorks luns (output.Ids at) = false
 outputWorks luns (output.Signature at) = false
 outputWorks luns (output.Feature at) = false
 
--- 5: LUN named by 00h, 80h, 60h or 06h is working (not 78h); also data out of a page register, or 05h, on a working LUN
+-- 5: LUN named by 00h, 80h, 85h, 60h or 06h is working (not 78h); also data out of a page register, or 05h, on a working LUN
 unfoldable pub lunWorks : Geometry → List Lun → ℕ → Decoder → Event → Bool
 lunWorks g luns selected d e =
     eqb (e .kind) 1 && namesWorking g luns selected (completed (d .sequence) (e .value)) || eqb (e .kind) 3 && outputWorks luns (d .output)
+
+-- a row that wants a copyback open on its LUN, where none is
+abbrev pub lacksCopyback : Geometry → List Lun → Given → Bool
+lacksCopyback g luns given.Nothing = false
+lacksCopyback g luns (given.Column k) = false
+lacksCopyback g luns (given.Row k) = needsCopyback (k .first) && not (copybackAt luns (lunOf g (k .row)))
+lacksCopyback g luns (given.Single k) = false
+
+-- 14: 85h's last row cycle, and no copyback open on the LUN that it names
+unfoldable pub noCopyback : Geometry → List Lun → Sequence → Event → Bool
+noCopyback g luns s e = eqb (e .kind) 1 && lacksCopyback g luns (completed s (e .value))
 
 -- a LUN works that the command waits for
 abbrev pub workFor : List Lun → ℕ → Waits → Bool
@@ -172,17 +183,19 @@ pub record Rule : Type 0 where
 abbrev pub rule : Bool → Refusal → Rule
 rule b r = record { holds = b; gives = r }
 
--- document 01's order: 12, 2, 1, 3, 6, 4, 9, 5, 7, 8 (13 is looked at before, in `usable`); 10 and 11 are met by bench events only
+-- document 01's order, with document 02's 14: 12, 2, 1, 3, 6, 4, 9, 5, 14, 7, 8 (13 is looked at before, in `usable`); 10 and 11 are
+-- met by bench events only
 unfoldable pub rules : Target → Event → List Rule
 rules t e =
     rule (badRecord e) BadRecord
     ∷ rule (beforeReset (t .seen) e) BeforeReset
-    ∷ rule (unknown (t .words) e) Unknown
+    ∷ rule (unknown (t .words) (t .decoder .sequence) e) Unknown
     ∷ rule (misplaced (t .decoder) e) Misplaced
     ∷ rule (othersBusy (t .luns) (t .selected) e) OthersWork
     ∷ rule (outOfRange (t .geometry) (t .decoder .sequence) e) OutOfRange
     ∷ rule (notOffered (t .words) (t .decoder .sequence) e) NotOffered
     ∷ rule (lunWorks (t .geometry) (t .luns) (t .selected) (t .decoder) e) LunWorks
+    ∷ rule (noCopyback (t .geometry) (t .luns) (t .decoder .sequence) e) NoCopyback
     ∷ rule (lineLow (t .high) e) Protected
     ∷ rule (pastEnd (t .geometry) (t .decoder) e) PastEnd
     ∷ rule (notWorking (t .geometry) (t .luns) e) NotWorking

@@ -25,6 +25,7 @@ use target::commands::first_of;
 use target::commands::is_known;
 use target::commands::knows_address;
 use target::commands::looks_of;
+use target::commands::needs_copyback;
 use target::commands::needs_ready;
 use target::commands::offered;
 use target::commands::second_of;
@@ -41,6 +42,7 @@ use target::place::takes_address;
 use target::place::takes_command;
 use target::place::takes_data;
 use target::records::any_works;
+use target::records::copyback_at;
 use target::records::others_work;
 use target::records::works;
 use target::sizes::page_size;
@@ -49,13 +51,13 @@ use target::views::Taker;
 use target::views::completed;
 use target::views::taking;
 ghost use mathlib.Core.Path.{_≡_};
-ghost use Rattle.rules.specs.Rules.{unknown, beforeReset, fits, misplaced, exists, rowFits, beyond, outOfRange, namesWorking, outputWorks, lunWorks, workFor, othersWorkFor, othersBusy, isGuarded, lineLow, dataEnded, outputEnded, pastEnd, unoffered, notOffered, notWorking, lineHeld, verdict};
+ghost use Rattle.rules.specs.Rules.{unknown, beforeReset, fits, misplaced, exists, rowFits, beyond, outOfRange, namesWorking, outputWorks, lunWorks, lacksCopyback, noCopyback, workFor, othersWorkFor, othersBusy, isGuarded, lineLow, dataEnded, outputEnded, pastEnd, unoffered, notOffered, notWorking, lineHeld, verdict};
 
 // Rule 1.
-pub fn unknown(w: Words, e: Event) -> bool
-    ensures { λ b. ⌜ b ≡ unknown w e ⌝ }
+pub fn unknown(w: Words, s: Sequence, e: Event) -> bool
+    ensures { λ b. ⌜ b ≡ unknown w s e ⌝ }
 {
-    (e.kind == 0) & !(is_known(e.value) & offered(w, e.value))
+    (e.kind == 0) & !(is_known(e.value) & offered(w, is_open(s), e.value))
 }
 
 // Rule 2.
@@ -171,6 +173,28 @@ pub fn lun_works(g: Geometry, luns: Luns, selected: usize, d: Decoder, e: Event)
     let o = d.output;
     ((e.kind == 1) & names_working(g, luns, selected, completed(s, e.value)))
         | ((e.kind == 3) & output_works(luns, o))
+}
+
+pub fn lacks_copyback(g: Geometry, luns: Luns, k: Given) -> bool
+    ensures { λ b. ⌜ b ≡ lacksCopyback g luns k ⌝ }
+{
+    match k {
+        Given::Nothing => false,
+        Given::Column(_) => false,
+        Given::Row(k) => {
+            let f = k.first;
+            let r = k.row;
+            needs_copyback(f) & !copyback_at(luns, lun_of(g, r))
+        }
+        Given::Single(_) => false,
+    }
+}
+
+// Rule 14.
+pub fn no_copyback(g: Geometry, luns: Luns, s: Sequence, e: Event) -> bool
+    ensures { λ b. ⌜ b ≡ noCopyback g luns s e ⌝ }
+{
+    (e.kind == 1) & lacks_copyback(g, luns, completed(s, e.value))
 }
 
 pub fn work_for(luns: Luns, selected: usize, w: Waits) -> bool
@@ -293,15 +317,16 @@ fn decide_command(t: Target, v: u8) -> Verdict
     let e = Event { kind: 0, value: v };
     let luns = t.luns;
     let d = t.decoder;
+    let s = d.sequence;
     let w = t.words;
     let n = or_else(line_low(t.high, e), Refusal::Protected, Verdict::Accepted);
     let n = or_else(others_busy(luns, t.selected, e), Refusal::OthersWork, n);
     let n = or_else(misplaced(d, e), Refusal::Misplaced, n);
-    let n = or_else(unknown(w, e), Refusal::Unknown, n);
+    let n = or_else(unknown(w, s, e), Refusal::Unknown, n);
     or_else(before_reset(t.seen, e), Refusal::BeforeReset, n)
 }
 
-// An address: rules 2, 3, 4 and 5.
+// An address: rules 2, 3, 4, 5 and 14.
 fn decide_address(t: Target, v: u8) -> Verdict
     ensures { λ r. ⌜ r ≡ verdict t (record { kind = 1; value = v }) ⌝ }
 {
@@ -311,10 +336,11 @@ fn decide_address(t: Target, v: u8) -> Verdict
     let d = t.decoder;
     let s = d.sequence;
     let n = or_else(
-        lun_works(g, luns, t.selected, d, e),
-        Refusal::LunWorks,
+        no_copyback(g, luns, s, e),
+        Refusal::NoCopyback,
         Verdict::Accepted,
     );
+    let n = or_else(lun_works(g, luns, t.selected, d, e), Refusal::LunWorks, n);
     let n = or_else(out_of_range(g, s, e), Refusal::OutOfRange, n);
     let n = or_else(misplaced(d, e), Refusal::Misplaced, n);
     or_else(before_reset(t.seen, e), Refusal::BeforeReset, n)

@@ -9,6 +9,7 @@ use lib.ListN.{length}
 use lib.Dec.{eqb, ltb, leb}
 use borrow.Author.Tests.{eqb-true, ltb-true, leb-true}
 use Rattle.target.specs.Address.{rowExists}
+use Rattle.target.specs.Commands.{takesProgramData}
 use Rattle.target.specs.Views.{taking}
 use Rattle.target.specs.Sizes.{pageSize, inLimits, sized}
 use Rattle.target.specs.declared.Column.{Column}
@@ -20,7 +21,7 @@ use Rattle.target.specs.declared.Sequence.{Sequence}
 use Rattle.target.specs.declared.Sequence.the-variants.{Idle, Columns, Rows, Single, Due, Filling, Moving, Setting}
 use Rattle.target.specs.declared.Output.{Output}
 use Rattle.target.specs.declared.Output.the-variants as output
-use Rattle.target.proofs.Both.{both, both4, both5}
+use Rattle.target.proofs.Both.{both, both3, both4, both5}
 use Rattle.target.proofs.Limits.{Limits, limits}
 use Rattle.effects.specs.Effects.{placeIn, placeOut}
 use Rattle.step.specs.Usable.{sequenceSound, outputSound, marksSound, wordsSound, recordSound, usable}
@@ -59,10 +60,11 @@ sound t h =
 
 -- a program's place and its row
 pub filling-place : (g : Geometry) (k : Fill) → sequenceSound g (Filling k) ≡ true → k .at .0 ≤ pageSize g
-filling-place g k h = leb-true _ _ (both (leb (k .at .0) (pageSize g)) (rowExists g (k .row)) h .0)
+filling-place g k h =
+    leb-true _ _ (both3 (takesProgramData (k .first)) (leb (k .at .0) (pageSize g)) (rowExists g (k .row)) h .1)
 
 pub filling-row : (g : Geometry) (k : Fill) → sequenceSound g (Filling k) ≡ true → rowExists g (k .row) ≡ true
-filling-row g k h = both (leb (k .at .0) (pageSize g)) (rowExists g (k .row)) h .1
+filling-row g k h = both3 (takesProgramData (k .first)) (leb (k .at .0) (pageSize g)) (rowExists g (k .row)) h .2
 
 -- a register that is put out lies within
 pub register-place : (g : Geometry) (l : ℕ) (c : Column) → outputSound g (output.Register l c) ≡ true → (l < g .luns) × (c .0 ≤ pageSize g)

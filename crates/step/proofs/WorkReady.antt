@@ -7,12 +7,12 @@ use Prim.Native.Nat.{ℕ, _<_}
 use native.Mathlib.Omega.{arith}
 use lib.ListN.{getD}
 use lib.Dec.{eqb, ltb, leb}
-use borrow.Author.Tests.{leb-false, not-true, eqb-true}
+use borrow.Author.Tests.{leb-false, not-true}
 use Rattle.target.specs.Pick.{pick}
 use Rattle.target.specs.Sizes.{pageSize}
 use Rattle.target.specs.Address.{lunOf, rowExists, blockExists, lunExists}
-use Rattle.target.specs.Commands.{takesColumn, takesRow, waitsSecond, endOf, looksOf, clearsRegister, rowOf, firstOf, secondOf, secondRow, firstCommands}
-use Rattle.target.specs.Views.{completed, taking, ending, endedBy, endedWith}
+use Rattle.target.specs.Commands.{takesColumn, takesRow, waitsSecond, looksOf, clearsRegister, rowOf, firstOf, secondOf, secondRow}
+use Rattle.target.specs.Views.{completed, taking, ending, endedBy, endedWith, endsWith}
 use Rattle.target.specs.Place.{isOpen}
 use Rattle.target.specs.Events.{isReset}
 use Rattle.target.specs.declared.Column.{Column}
@@ -41,7 +41,7 @@ use Rattle.target.specs.declared.Sequence.the-variants.{Idle, Columns, Rows, Si
 use Rattle.target.specs.declared.Work.{Work}
 use Rattle.target.specs.declared.Work.the-variants as work
 use Rattle.target.proofs.Both.{both, both3, neither, meant}
-use Rattle.target.proofs.Firsts.{every, each-first}
+use Rattle.target.proofs.Firsts.{each-first, each-end}
 use Rattle.target.proofs.Limits.{Limits, limits}
 use Rattle.rules.specs.Rules.{exists, rowFits, beyond, dataEnded, outputEnded, outOfRange, pastEnd, verdict}
 use Rattle.rules.proofs.Passed.{Passed, all-passed}
@@ -74,9 +74,9 @@ endSuits second.Nothing rowed l = true
 endSuits (second.Found s) rowed l = suits (secondRow s .act) rowed l
 
 -- one test over the list of first commands
-pub ends-suit : (f : First) → endSuits (secondOf (endOf f)) (takesRow f) (looksOf f) ≡ true
+pub ends-suit : (f : First) (v : ℕ) → endsWith f v ≡ true → endSuits (secondOf v) (takesRow f) (looksOf f) ≡ true
 unfolding rowOf secondOf secondRow
-ends-suit f = each-first (λ (x : First). endSuits (secondOf (endOf x)) (takesRow x) (looksOf x)) refl f
+ends-suit f v h = each-end (λ (x : First) (k : SecondFound). endSuits k (takesRow x) (looksOf x)) refl f v h
 
 -- a command that clears registers has a row whose page exists
 abbrev isPage : Looks → Bool
@@ -124,15 +124,15 @@ module _ (g : Geometry) where
   unfolding EnderReaches
   none-reached = tt
 
-  found-reached : (k : SecondFound) (c : Column) (r : Row) (f : First) → endSuits k (takesRow f) (looksOf f) ≡ true → rowHeld g f r ≡ true → EnderReaches g (endedWith k c r (takesRow f))
+  found-reached : (k : SecondFound) (c : Column) (r : Row) (f : First) → endSuits k (takesRow f) (looksOf f) ≡ true → rowHeld g f r ≡ true → EnderReaches g (endedWith k f c r)
   unfolding EnderReaches
   found-reached second.Nothing c r f h held = tt
   found-reached (second.Found s) c r f h held = reached (secondRow s .act) (takesRow f) (looksOf f) r h (held-row f r held)
 
-  filling-reached : (k : SecondFound) (c : Column) (r : Row) → rowExists g r ≡ true → EnderReaches g (endedWith k c r true)
+  filling-reached : (k : SecondFound) (f : First) (c : Column) (r : Row) → rowExists g r ≡ true → EnderReaches g (endedWith k f c r)
   unfolding EnderReaches
-  filling-reached second.Nothing c r h = tt
-  filling-reached (second.Found s) c r h = row-reaches (secondRow s .act) r h
+  filling-reached second.Nothing f c r h = tt
+  filling-reached (second.Found s) f c r h = row-reaches (secondRow s .act) r h
 
   reach-pick : (b : Bool) (x y : Ender) → (b ≡ true → EnderReaches g x) → EnderReaches g y → EnderReaches g (pick b x y)
   reach-pick true x y h k = h refl
@@ -147,14 +147,12 @@ module _ (g : Geometry) where
   ender-reaches (Due k) v h =
       let f = k .first in
       let p = both3 (waitsSecond f) (columnHeld g f (k .column)) (rowHeld g f (k .row)) h in
-      reach-pick (eqb v (endOf f)) (endedBy v (k .column) (k .row) (takesRow f)) ender.Nothing
-      (λ same. found-reached (secondOf v) (k .column) (k .row) f
-      (subst (λ (x : ℕ). endSuits (secondOf x) (takesRow f) (looksOf f) ≡ true) (sym (eqb-true v (endOf f) same)) (ends-suit f))
-      (p .2))
+      reach-pick (endsWith f v) (endedBy v f (k .column) (k .row)) ender.Nothing
+      (λ is. found-reached (secondOf v) (k .column) (k .row) f (ends-suit f v is) (p .2))
       none-reached
   ender-reaches (Filling k) v h =
-      reach-pick (eqb v 0x10 || eqb v 0x85) (endedBy v (k .at) (k .row) true) ender.Nothing
-      (λ _. filling-reached (secondOf v) (k .at) (k .row) (filling-row g k h))
+      reach-pick (eqb v 0x10 || eqb v 0x85) (endedBy v (k .first) (k .at) (k .row)) ender.Nothing
+      (λ _. filling-reached (secondOf v) (k .first) (k .at) (k .row) (filling-row g k h))
       none-reached
   ender-reaches (Moving k) v h = none-reached
   ender-reaches (Setting k) v h = none-reached

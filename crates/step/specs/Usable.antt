@@ -8,7 +8,7 @@ use lib.Dec.{eqb, ltb, leb}
 use Rattle.target.specs.Pick.{pick}
 use Rattle.target.specs.Words.{hasFeature}
 use Rattle.target.specs.Address.{rowExists}
-use Rattle.target.specs.Commands.{takesColumn, takesRow, cyclesOf, waitsSecond}
+use Rattle.target.specs.Commands.{takesColumn, takesRow, cyclesOf, waitsSecond, takesProgramData}
 use Rattle.target.specs.Luns.{isReady, lunAt}
 use Rattle.target.specs.Sizes.{pageSize, inLimits, sized}
 use Rattle.target.specs.declared.Column.{Column}
@@ -32,16 +32,16 @@ columnHeld g f c = pick (takesColumn f) (ltb (c .0) (pageSize g)) (eqb (c .0) 0)
 abbrev pub rowHeld : Geometry → First → Row → Bool
 rowHeld g f r = pick (takesRow f) (rowFits g f r) (eqb (r .0) 0)
 
--- cycle counts below the command's, whole columns below P (a program's place up to P), rows that exist, a first feature byte of
--- 0 or 40h; half-given bytes may be any
+-- cycle counts below the command's, whole columns below P (a program's place up to P), rows that exist, a program opened by 80h or
+-- 85h, a first feature byte of 0 or 40h; half-given bytes may be any
 abbrev pub sequenceSound : Geometry → Sequence → Bool
 sequenceSound g Idle = true
 sequenceSound g (Columns k) = takesColumn (k .first) && ltb (k .got) 2
 sequenceSound g (Rows k) = takesRow (k .first) && ltb (k .got) 3 && columnHeld g (k .first) (k .column)
 sequenceSound g (Single f) = eqb (cyclesOf f) 1
 sequenceSound g (Due k) = waitsSecond (k .first) && columnHeld g (k .first) (k .column) && rowHeld g (k .first) (k .row)
-sequenceSound g (Filling k) = leb (k .at .0) (pageSize g) && rowExists g (k .row)
-sequenceSound g (Moving k) = ltb (k .got) 2 && rowExists g (k .row)
+sequenceSound g (Filling k) = takesProgramData (k .first) && leb (k .at .0) (pageSize g) && rowExists g (k .row)
+sequenceSound g (Moving k) = takesProgramData (k .first) && ltb (k .got) 2 && rowExists g (k .row)
 sequenceSound g (Setting k) = ltb (k .got) 4 && (eqb (k .value) 0 || eqb (k .value) 0x40)
 
 -- the next byte's place is at most the end; the LUN exists
@@ -54,7 +54,7 @@ outputSound g (output.Ids at) = leb at 2
 outputSound g (output.Signature at) = leb at 4
 outputSound g (output.Feature at) = leb at 4
 
--- a LUN past the count is as power-on left it
+-- the copyback mark may be either way; a LUN past the count is as power-on left it
 abbrev pub markSound : Geometry → List Lun → ℕ → Bool
 markSound g luns l = ltb l (g .luns) || isReady (lunAt luns l)
 

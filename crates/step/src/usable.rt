@@ -16,6 +16,7 @@ use target::address::row_exists;
 use target::bits::has_feature;
 use target::commands::cycles_of;
 use target::commands::takes_column;
+use target::commands::takes_program_data;
 use target::commands::takes_row;
 use target::commands::waits_second;
 use target::picks::pick_bool;
@@ -60,9 +61,10 @@ pub fn wait_sound(g: Geometry, k: Wait) -> bool
 pub fn fill_sound(g: Geometry, k: Fill) -> bool
     ensures { λ b. ⌜ b ≡ sequenceSound g (sequence.Filling k) ⌝ }
 {
+    let f = k.first;
     let at = k.at;
     let r = k.row;
-    (at.0 <= page_size(g)) & row_exists(g, r)
+    takes_program_data(f) & (at.0 <= page_size(g)) & row_exists(g, r)
 }
 
 pub fn sequence_sound(g: Geometry, s: Sequence) -> bool
@@ -79,8 +81,9 @@ pub fn sequence_sound(g: Geometry, s: Sequence) -> bool
         Sequence::Due(k) => wait_sound(g, k),
         Sequence::Filling(k) => fill_sound(g, k),
         Sequence::Moving(k) => {
+            let f = k.first;
             let r = k.row;
-            (k.got < 2) & row_exists(g, r)
+            takes_program_data(f) & (k.got < 2) & row_exists(g, r)
         }
         Sequence::Setting(k) => (k.got < 4) & ((k.value == 0) | (k.value == 0x40)),
     }

@@ -9,16 +9,18 @@ use native.Mathlib.Nat.{le-of-suc-le-suc, not-suc-le-zero}
 use lib.Dec.{lit<, eqb}
 use borrow.Author.Tests.{eqb-true}
 use lib.ListN.{length, getD}
-use Rattle.target.specs.Commands.{firstCommands, placeOf, rowOf, byteOf, firstOf, secondPlace}
+use Rattle.target.specs.Commands.{firstCommands, placeOf, rowOf, byteOf, endOf, otherEnd, firstOf, secondPlace, secondOf}
+use Rattle.target.specs.Views.{endsWith}
 use Rattle.target.specs.declared.First.{First}
-use Rattle.target.specs.declared.First.the-variants.{Read, ChangeColumn, ChangeColumnEnhanced, Erase, Status, StatusEnhanced, Program, ReadId, ParameterPage, GetFeatures, SetFeatures}
+use Rattle.target.specs.declared.First.the-variants.{Read, ChangeColumn, ChangeColumnEnhanced, Erase, Status, StatusEnhanced, Program, ReadId, ParameterPage, GetFeatures, SetFeatures, CopybackProgram}
 use Rattle.target.specs.declared.commands.FirstFound.{FirstFound}
 use Rattle.target.specs.declared.commands.FirstFound.the-variants as first
+use Rattle.target.specs.declared.commands.SecondFound.{SecondFound}
 use Rattle.target.specs.declared.Second.{Second}
-use Rattle.target.specs.declared.Second.the-variants.{StartRead, StartOutput, StartProgram, StartErase, Move}
-use Rattle.target.proofs.Both.{both}
+use Rattle.target.specs.declared.Second.the-variants.{StartRead, StartOutput, StartProgram, StartErase, Move, StartCopyback}
+use Rattle.target.proofs.Both.{both, other}
 
-pub listed : (f : First) → placeOf f < 11
+pub listed : (f : First) → placeOf f < 12
 listed Read = lit< tt
 listed ChangeColumn = lit< tt
 listed ChangeColumnEnhanced = lit< tt
@@ -30,13 +32,15 @@ listed ReadId = lit< tt
 listed ParameterPage = lit< tt
 listed GetFeatures = lit< tt
 listed SetFeatures = lit< tt
+listed CopybackProgram = lit< tt
 
-pub second-listed : (s : Second) → secondPlace s < 5
+pub second-listed : (s : Second) → secondPlace s < 6
 second-listed StartRead = lit< tt
 second-listed StartOutput = lit< tt
 second-listed StartProgram = lit< tt
 second-listed StartErase = lit< tt
 second-listed Move = lit< tt
+second-listed StartCopyback = lit< tt
 
 -- each stands at its place
 standing : (f : First) → getD firstCommands (placeOf f) Read ≡ f
@@ -51,6 +55,7 @@ standing ReadId = refl
 standing ParameterPage = refl
 standing GetFeatures = refl
 standing SetFeatures = refl
+standing CopybackProgram = refl
 
 abbrev pub every : (First → Bool) → List First → Bool
 every p [] = true
@@ -64,6 +69,24 @@ at-place p (f ∷ fs) (suc k) h all = at-place p fs k (le-of-suc-le-suc h) (both
 -- a test that holds of each in the list holds of every first command
 pub each-first : (p : First → Bool) → every p firstCommands ≡ true → (f : First) → p f ≡ true
 each-first p all f = subst (λ (x : First). p x ≡ true) (standing f) (at-place p firstCommands (placeOf f) (listed f) all)
+
+-- and one that holds of both its second commands holds of whichever ends it
+pub each-end : (p : First → SecondFound → Bool)
+    → every (λ (x : First). p x (secondOf (endOf x)) && p x (secondOf (otherEnd x))) firstCommands ≡ true
+    → (f : First) (v : ℕ) → endsWith f v ≡ true → p f (secondOf v) ≡ true
+each-end p all f v h = by-end (eqb v (endOf f)) refl
+  where
+    pair : (p f (secondOf (endOf f)) ≡ true) × (p f (secondOf (otherEnd f)) ≡ true)
+    pair =
+        both (p f (secondOf (endOf f))) (p f (secondOf (otherEnd f)))
+        (each-first (λ (x : First). p x (secondOf (endOf x)) && p x (secondOf (otherEnd x))) all f)
+
+    by-end : (b : Bool) → eqb v (endOf f) ≡ b → p f (secondOf v) ≡ true
+    by-end true q = subst (λ (n : ℕ). p f (secondOf n) ≡ true) (sym (eqb-true v (endOf f) q)) (pair .0)
+    by-end false q =
+        subst (λ (n : ℕ). p f (secondOf n) ≡ true)
+        (sym (eqb-true v (otherEnd f) (other (eqb v (endOf f)) (eqb v (otherEnd f)) h q)))
+        (pair .1)
 
 -- a command that is found stands at this place
 abbrev foundAt : FirstFound → ℕ → Bool

@@ -9,9 +9,9 @@ use Rattle.target.specs.Pick.{pick}
 use Rattle.target.specs.Words.{hasOption}
 use Rattle.target.specs.declared.Words.{Words}
 use Rattle.target.specs.declared.First.{First}
-use Rattle.target.specs.declared.First.the-variants.{Read, ChangeColumn, ChangeColumnEnhanced, Erase, Status, StatusEnhanced, Program, ReadId, ParameterPage, GetFeatures, SetFeatures}
+use Rattle.target.specs.declared.First.the-variants.{Read, ChangeColumn, ChangeColumnEnhanced, Erase, Status, StatusEnhanced, Program, ReadId, ParameterPage, GetFeatures, SetFeatures, CopybackProgram}
 use Rattle.target.specs.declared.Second.{Second}
-use Rattle.target.specs.declared.Second.the-variants.{StartRead, StartOutput, StartProgram, StartErase, Move}
+use Rattle.target.specs.declared.Second.the-variants.{StartRead, StartOutput, StartProgram, StartErase, Move, StartCopyback}
 use Rattle.target.specs.declared.commands.Class.{Class}
 use Rattle.target.specs.declared.commands.Class.the-variants as class
 use Rattle.target.specs.declared.commands.Looks.{Looks}
@@ -31,19 +31,23 @@ use Rattle.target.specs.declared.commands.SecondFound.the-variants as se
 
 -- The first commands.
 
--- the short list: byte, address cycles, second command (0 where there is none), which fields of its row are looked at, what follows
--- its addresses, whether 5 is asked of its LUN, which LUNs 6 waits for, whether it clears registers, the addresses that a lone
--- address cycle may have, and the optional bit that offers it (16: every part has it)
-abbrev pub firstRow : ℕ → ℕ → ℕ → Looks → Then → Bool → Waits → Bool → ℕ → ℕ → ℕ → FirstRow
-firstRow b n s l t r w c x y o = record {
+-- the short list: byte, address cycles, second command (0 where there is none) and another that may stand for it (0 where there is
+-- none), which fields of its row are looked at, what follows its addresses, whether 5 is asked of its LUN, which LUNs 6 waits for,
+-- whether it clears registers, whether its row closes the LUN's copyback, whether its row wants one that is open there, the addresses
+-- that a lone address cycle may have, and the optional bit that offers it (16: every part has it)
+abbrev pub firstRow : ℕ → ℕ → ℕ → ℕ → Looks → Then → Bool → Waits → Bool → Bool → Bool → ℕ → ℕ → ℕ → FirstRow
+firstRow b n s alt l t r w c k p x y o = record {
   byte = b;
   cycles = n;
   second = s;
+  or = alt;
   looks = l;
   then = t;
   ready = r;
   waits = w;
   clears = c;
+  closes = k;
+  copies = p;
   one = x;
   other = y;
   option = o;
@@ -51,17 +55,18 @@ firstRow b n s l t r w c x y o = record {
 
 abbrev pub firsts : List FirstRow
 firsts =
-    firstRow 0x00 5 0x30 looks.Page then.Second true waits.Nobody false 0x00 0x00 16
-    ∷ firstRow 0x05 2 0xe0 looks.Nothing then.Second true waits.Nobody false 0x00 0x00 16
-    ∷ firstRow 0x06 5 0xe0 looks.Lun then.Second true waits.Nobody false 0x00 0x00 6
-    ∷ firstRow 0x60 3 0xd0 looks.Block then.Second true waits.Nobody false 0x00 0x00 16
-    ∷ firstRow 0x70 0 0x00 looks.Nothing then.Status false waits.Others false 0x00 0x00 16
-    ∷ firstRow 0x78 3 0x00 looks.Lun then.Status false waits.Nobody false 0x00 0x00 3
-    ∷ firstRow 0x80 5 0x10 looks.Page then.Data true waits.Nobody true 0x00 0x00 16
-    ∷ firstRow 0x90 1 0x00 looks.Nothing then.Id false waits.All false 0x00 0x20 16
-    ∷ firstRow 0xec 1 0x00 looks.Nothing then.ParameterPage false waits.All false 0x00 0x00 16
-    ∷ firstRow 0xee 1 0x00 looks.Nothing then.FeatureOut false waits.All false 0x01 0x01 2
-    ∷ firstRow 0xef 1 0x00 looks.Nothing then.FeatureIn false waits.All false 0x01 0x01 2
+    firstRow 0x00 5 0x30 0x35 looks.Page then.Second true waits.Nobody false false false 0x00 0x00 16
+    ∷ firstRow 0x05 2 0xe0 0x00 looks.Nothing then.Second true waits.Nobody false false false 0x00 0x00 16
+    ∷ firstRow 0x06 5 0xe0 0x00 looks.Lun then.Second true waits.Nobody false false false 0x00 0x00 6
+    ∷ firstRow 0x60 3 0xd0 0x00 looks.Block then.Second true waits.Nobody false false false 0x00 0x00 16
+    ∷ firstRow 0x70 0 0x00 0x00 looks.Nothing then.Status false waits.Others false false false 0x00 0x00 16
+    ∷ firstRow 0x78 3 0x00 0x00 looks.Lun then.Status false waits.Nobody false false false 0x00 0x00 3
+    ∷ firstRow 0x80 5 0x10 0x00 looks.Page then.Data true waits.Nobody true true false 0x00 0x00 16
+    ∷ firstRow 0x90 1 0x00 0x00 looks.Nothing then.Id false waits.All false false false 0x00 0x20 16
+    ∷ firstRow 0xec 1 0x00 0x00 looks.Nothing then.ParameterPage false waits.All false false false 0x00 0x00 16
+    ∷ firstRow 0xee 1 0x00 0x00 looks.Nothing then.FeatureOut false waits.All false false false 0x01 0x01 2
+    ∷ firstRow 0xef 1 0x00 0x00 looks.Nothing then.FeatureIn false waits.All false false false 0x01 0x01 2
+    ∷ firstRow 0x85 5 0x10 0x00 looks.Page then.Data true waits.Nobody false false true 0x00 0x00 4
     ∷ []
 
 -- the place of a first command in that list
@@ -77,15 +82,16 @@ placeOf ReadId = 7
 placeOf ParameterPage = 8
 placeOf GetFeatures = 9
 placeOf SetFeatures = 10
+placeOf CopybackProgram = 11
 
 -- the commands in the list's order
 abbrev pub firstCommands : List First
-firstCommands = Read ∷ ChangeColumn ∷ ChangeColumnEnhanced ∷ Erase ∷ Status ∷ StatusEnhanced ∷ Program ∷ ReadId ∷ ParameterPage ∷ GetFeatures ∷ SetFeatures ∷ []
+firstCommands = Read ∷ ChangeColumn ∷ ChangeColumnEnhanced ∷ Erase ∷ Status ∷ StatusEnhanced ∷ Program ∷ ReadId ∷ ParameterPage ∷ GetFeatures ∷ SetFeatures ∷ CopybackProgram ∷ []
 
 unfoldable pub rowOf : First → FirstRow
 rowOf f =
     getD firsts (placeOf f)
-    (firstRow 0 0 0 looks.Nothing then.Second false waits.Nobody false 0 0 0)
+    (firstRow 0 0 0 0 looks.Nothing then.Second false waits.Nobody false false false 0 0 0)
 
 abbrev pub byteOf : First → ℕ
 byteOf f = rowOf f .byte
@@ -95,6 +101,9 @@ cyclesOf f = rowOf f .cycles
 
 abbrev pub endOf : First → ℕ
 endOf f = rowOf f .second
+
+abbrev pub otherEnd : First → ℕ
+otherEnd f = rowOf f .or
 
 abbrev pub looksOf : First → Looks
 looksOf f = rowOf f .looks
@@ -110,6 +119,13 @@ waitsFor f = rowOf f .waits
 
 abbrev pub clearsRegister : First → Bool
 clearsRegister f = rowOf f .clears
+
+-- its row closes the LUN's copyback; its row wants one that is open there
+abbrev pub closesCopyback : First → Bool
+closesCopyback f = rowOf f .closes
+
+abbrev pub needsCopyback : First → Bool
+needsCopyback f = rowOf f .copies
 
 abbrev pub knowsAddress : First → ℕ → Bool
 knowsAddress f v = eqb v (rowOf f .one) || eqb v (rowOf f .other)
@@ -133,6 +149,19 @@ isSecond then.FeatureOut = false
 abbrev pub waitsSecond : First → Bool
 waitsSecond f = isSecond (thenOf f)
 
+abbrev pub isData : Then → Bool
+isData then.Second = false
+isData then.Data = true
+isData then.FeatureIn = false
+isData then.Status = false
+isData then.Id = false
+isData then.ParameterPage = false
+isData then.FeatureOut = false
+
+-- 80h and 85h: data goes in once the addresses have come
+abbrev pub takesProgramData : First → Bool
+takesProgramData f = isData (thenOf f)
+
 -- the first command of the list with this byte
 abbrev pub firstIn : List First → ℕ → FirstFound
 firstIn [] v = first.Nothing
@@ -141,7 +170,7 @@ firstIn (f ∷ fs) v = pick (eqb v (byteOf f)) (first.Found f) (firstIn fs v)
 unfoldable pub firstOf : ℕ → FirstFound
 firstOf v = firstIn firstCommands v
 
--- 78h, 06h, EEh and EFh are optional: optional bit 3, 6 and 2
+-- 78h, 06h, EEh, EFh and 85h are optional: optional bit 3, 6, 2, 2 and 4
 abbrev pub offeredTo : Words → First → Bool
 offeredTo w f = eqb (rowOf f .option) 16 || hasOption w (rowOf f .option)
 
@@ -149,23 +178,21 @@ abbrev pub offeredFound : Words → FirstFound → Bool
 offeredFound w first.Nothing = true
 offeredFound w (first.Found f) = offeredTo w f
 
--- the part has the command of this byte; one that opens no sequence is always there
-unfoldable pub offered : Words → ℕ → Bool
-offered w v = offeredFound w (firstOf v)
-
 -- The second commands.
 
--- byte; whether the LUN works from it on; whether 7 guards it; whether it puts the register out; what it does with the page or block
-abbrev pub secondLine : ℕ → Bool → Bool → Bool → Act → SecondRow
-secondLine b s g o a = record { byte = b; starts = s; guarded = g; shows = o; act = a }
+-- byte; whether the LUN works from it on; whether 7 guards it; whether it puts the register out; what it does with the page or block;
+-- whether it opens a copyback on the LUN, and whether it closes it; the optional bit that offers it (16: every part has it)
+abbrev pub secondLine : ℕ → Bool → Bool → Bool → Act → Bool → Bool → ℕ → SecondRow
+secondLine b s g x a o c n = record { byte = b; starts = s; guarded = g; shows = x; act = a; opens = o; closes = c; option = n }
 
 abbrev pub seconds : List SecondRow
 seconds =
-    secondLine 0x30 true false true act.Load
-    ∷ secondLine 0xe0 false false true act.Nothing
-    ∷ secondLine 0x10 true true false act.Program
-    ∷ secondLine 0xd0 true true false act.Erase
-    ∷ secondLine 0x85 false false false act.Move
+    secondLine 0x30 true false true act.Load false true 16
+    ∷ secondLine 0xe0 false false true act.Nothing false false 16
+    ∷ secondLine 0x10 true true false act.Program false false 16
+    ∷ secondLine 0xd0 true true false act.Erase false true 16
+    ∷ secondLine 0x85 false false false act.Move false false 16
+    ∷ secondLine 0x35 true false true act.Load true false 4
     ∷ []
 
 abbrev pub secondPlace : Second → ℕ
@@ -174,13 +201,14 @@ secondPlace StartOutput = 1
 secondPlace StartProgram = 2
 secondPlace StartErase = 3
 secondPlace Move = 4
+secondPlace StartCopyback = 5
 
 abbrev pub secondCommands : List Second
-secondCommands = StartRead ∷ StartOutput ∷ StartProgram ∷ StartErase ∷ Move ∷ []
+secondCommands = StartRead ∷ StartOutput ∷ StartProgram ∷ StartErase ∷ Move ∷ StartCopyback ∷ []
 
 unfoldable pub secondRow : Second → SecondRow
 secondRow s =
-    getD seconds (secondPlace s) (secondLine 0 false false false act.Nothing)
+    getD seconds (secondPlace s) (secondLine 0 false false false act.Nothing false false 0)
 
 abbrev pub secondByte : Second → ℕ
 secondByte s = secondRow s .byte
@@ -191,6 +219,19 @@ secondIn (s ∷ ss) v = pick (eqb v (secondByte s)) (second.Found s) (secondIn s
 
 unfoldable pub secondOf : ℕ → SecondFound
 secondOf v = secondIn secondCommands v
+
+-- 35h is optional: optional bit 4
+abbrev pub offeredSecond : Words → SecondFound → Bool
+offeredSecond w second.Nothing = true
+offeredSecond w (second.Found s) = eqb (secondRow s .option) 16 || hasOption w (secondRow s .option)
+
+abbrev pub isSecondFound : SecondFound → Bool
+isSecondFound second.Nothing = false
+isSecondFound (second.Found s) = true
+
+-- the part has the command of this byte; while a sequence is open a byte of both lists is the second command
+unfoldable pub offered : Words → Bool → ℕ → Bool
+offered w inside v = offeredSecond w (secondOf v) && (inside && isSecondFound (secondOf v) || offeredFound w (firstOf v))
 
 -- The class of each byte.
 

@@ -1,7 +1,7 @@
--- Document 01's number of each refusal, and the two bytes of each reply ("Events and replies as records", "Refusal numbers").
+-- The number of each refusal (1 to 13 document 01's, 14 document 02's), and the two bytes of each reply ("Events and replies as records", "Refusal numbers").
 use Prim.Native.Nat.{ℕ}
 use Rattle.target.specs.declared.Refusal.{Refusal}
-use Rattle.target.specs.declared.Refusal.the-variants.{Unknown, BeforeReset, Misplaced, OutOfRange, LunWorks, OthersWork, Protected, PastEnd, NotOffered, NotWorking, LineHeld, BadRecord, NotUsable}
+use Rattle.target.specs.declared.Refusal.the-variants.{Unknown, BeforeReset, Misplaced, OutOfRange, LunWorks, OthersWork, Protected, PastEnd, NotOffered, NotWorking, LineHeld, BadRecord, NotUsable, NoCopyback}
 use Rattle.target.specs.declared.Reply.{Reply}
 use Rattle.target.specs.declared.Reply.the-variants as reply
 
@@ -19,6 +19,7 @@ numberOf NotWorking = 10
 numberOf LineHeld = 11
 numberOf BadRecord = 12
 numberOf NotUsable = 13
+numberOf NoCopyback = 14
 
 -- 00 00 accepted; 01 and the byte; 02 and the refusal number
 abbrev pub replyFirst : Reply → ℕ

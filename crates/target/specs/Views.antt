@@ -5,7 +5,7 @@ use mathlib.Core.Bool.{Bool, true, false, _&&_, _||_, not}
 use lib.Dec.{eqb}
 use Rattle.target.specs.Pick.{pick}
 use Rattle.target.specs.Address.{columnFrom, rowFrom}
-use Rattle.target.specs.Commands.{endOf, needsReady, takesRow, secondOf}
+use Rattle.target.specs.Commands.{endOf, otherEnd, needsReady, takesRow, secondOf}
 use Rattle.target.specs.declared.Column.{Column}
 use Rattle.target.specs.declared.Row.{Row}
 use Rattle.target.specs.declared.First.{First}
@@ -49,12 +49,16 @@ taking (Filling k) = takes.Program k
 taking (Moving k) = takes.Nothing
 taking (Setting k) = takes.Feature k
 
-abbrev pub endedWith : SecondFound → Column → Row → Bool → Ender
-endedWith second.Nothing c r rowed = ends.Nothing
-endedWith (second.Found s) c r rowed = ends.By (record { second = s; column = c; row = r; rowed = rowed })
+abbrev pub endedWith : SecondFound → First → Column → Row → Ender
+endedWith second.Nothing f c r = ends.Nothing
+endedWith (second.Found s) f c r = ends.By (record { first = f; second = s; column = c; row = r })
 
-abbrev pub endedBy : ℕ → Column → Row → Bool → Ender
-endedBy v c r rowed = endedWith (secondOf v) c r rowed
+abbrev pub endedBy : ℕ → First → Column → Row → Ender
+endedBy v f c r = endedWith (secondOf v) f c r
+
+-- the second command of a first one, or the other that may stand for it
+abbrev pub endsWith : First → ℕ → Bool
+endsWith f v = eqb v (endOf f) || eqb v (otherEnd f)
 
 -- the second command where its cycles have come, and 10h or 85h inside a program
 abbrev pub ending : Sequence → ℕ → Ender
@@ -62,7 +66,7 @@ ending Idle v = ends.Nothing
 ending (Columns k) v = ends.Nothing
 ending (Rows k) v = ends.Nothing
 ending (Single f) v = ends.Nothing
-ending (Due k) v = pick (eqb v (endOf (k .first))) (endedBy v (k .column) (k .row) (takesRow (k .first))) ends.Nothing
-ending (Filling k) v = pick (eqb v 0x10 || eqb v 0x85) (endedBy v (k .at) (k .row) true) ends.Nothing
+ending (Due k) v = pick (endsWith (k .first) v) (endedBy v (k .first) (k .column) (k .row)) ends.Nothing
+ending (Filling k) v = pick (eqb v 0x10 || eqb v 0x85) (endedBy v (k .first) (k .at) (k .row)) ends.Nothing
 ending (Moving k) v = ends.Nothing
 ending (Setting k) v = ends.Nothing

@@ -4,7 +4,7 @@ use crate::Second;
 use crate::Words;
 use crate::bits::has_option;
 ghost use mathlib.Core.Path.{_≡_};
-ghost use Rattle.target.specs.Commands.{classOf, isFirst, isKnown, firstOf, placeOf, rowOf, cyclesOf, endOf, looksOf, thenOf, needsReady, waitsFor, clearsRegister, knowsAddress, takesColumn, takesRow, waitsSecond, secondPlace, secondRow, secondOf, offeredTo, offered};
+ghost use Rattle.target.specs.Commands.{classOf, isFirst, isKnown, firstOf, placeOf, rowOf, cyclesOf, endOf, looksOf, thenOf, needsReady, waitsFor, clearsRegister, knowsAddress, takesColumn, takesRow, waitsSecond, secondPlace, secondRow, secondOf, offeredTo, offeredFound, offeredSecond, isSecondFound, offered, otherEnd, closesCopyback, needsCopyback, takesProgramData};
 
 // Each command byte has one class; optional bits don't count.
 pub enum Class {
@@ -70,87 +70,87 @@ const CLASSES: [u8; 256] = [
     0,
     0,
     0,
-    0,
-    0,
-    0,
-    0,
-    0,
-    0,
-    0,
-    0,
-    0,
-    0,
-    0,
-    0,
-    0,
-    0,
-    0,
-    0,
-    0,
-    0,
-    0,
-    0,
-    0,
-    0,
-    0,
-    0,
-    0,
-    0,
-    0,
-    0,
-    0,
-    0,
-    0,
-    0,
-    0,
-    0,
-    0,
-    0,
-    0,
-    0,
-    0,
-    0,
-    0,
-    0,
-    0,
-    1,
-    0,
-    0,
-    0,
-    0,
-    0,
-    0,
-    0,
-    0,
-    0,
-    0,
-    0,
-    0,
-    0,
-    0,
-    0,
-    1,
-    0,
-    0,
-    0,
-    0,
-    0,
-    0,
-    0,
-    1,
-    0,
-    0,
-    0,
-    0,
-    0,
-    0,
-    0,
-    1,
-    0,
-    0,
-    0,
-    0,
     2,
+    0,
+    0,
+    0,
+    0,
+    0,
+    0,
+    0,
+    0,
+    0,
+    0,
+    0,
+    0,
+    0,
+    0,
+    0,
+    0,
+    0,
+    0,
+    0,
+    0,
+    0,
+    0,
+    0,
+    0,
+    0,
+    0,
+    0,
+    0,
+    0,
+    0,
+    0,
+    0,
+    0,
+    0,
+    0,
+    0,
+    0,
+    0,
+    0,
+    0,
+    0,
+    0,
+    1,
+    0,
+    0,
+    0,
+    0,
+    0,
+    0,
+    0,
+    0,
+    0,
+    0,
+    0,
+    0,
+    0,
+    0,
+    0,
+    1,
+    0,
+    0,
+    0,
+    0,
+    0,
+    0,
+    0,
+    1,
+    0,
+    0,
+    0,
+    0,
+    0,
+    0,
+    0,
+    1,
+    0,
+    0,
+    0,
+    0,
+    3,
     0,
     0,
     0,
@@ -364,6 +364,8 @@ pub struct FirstRow {
     pub cycles: u8,
     // the second command's byte, 0 where there is none (00h is no second command)
     pub second: u8,
+    // another second command that may stand for it, 0 where there is none
+    pub or: u8,
     pub looks: Looks,
     pub then: Then,
     // refusal 5 is asked of its LUN with its last address cycle
@@ -371,6 +373,10 @@ pub struct FirstRow {
     pub waits: Waits,
     // program-clear says which registers it clears
     pub clears: bool,
+    // its row closes the LUN's copyback
+    pub closes: bool,
+    // refusal 14 is asked of its row: it wants the LUN's copyback open
+    pub copies: bool,
     // the two values that its one address may have
     pub one: u8,
     pub other: u8,
@@ -378,16 +384,19 @@ pub struct FirstRow {
     pub option: u8,
 }
 
-const FIRSTS: [FirstRow; 11] = [
+const FIRSTS: [FirstRow; 12] = [
     FirstRow {
         byte: 0x00,
         cycles: 5,
         second: 0x30,
+        or: 0x35,
         looks: Looks::Page,
         then: Then::Second,
         ready: true,
         waits: Waits::Nobody,
         clears: false,
+        closes: false,
+        copies: false,
         one: 0x00,
         other: 0x00,
         option: 16,
@@ -396,11 +405,14 @@ const FIRSTS: [FirstRow; 11] = [
         byte: 0x05,
         cycles: 2,
         second: 0xe0,
+        or: 0x00,
         looks: Looks::Nothing,
         then: Then::Second,
         ready: true,
         waits: Waits::Nobody,
         clears: false,
+        closes: false,
+        copies: false,
         one: 0x00,
         other: 0x00,
         option: 16,
@@ -409,11 +421,14 @@ const FIRSTS: [FirstRow; 11] = [
         byte: 0x06,
         cycles: 5,
         second: 0xe0,
+        or: 0x00,
         looks: Looks::Lun,
         then: Then::Second,
         ready: true,
         waits: Waits::Nobody,
         clears: false,
+        closes: false,
+        copies: false,
         one: 0x00,
         other: 0x00,
         option: 6,
@@ -422,11 +437,14 @@ const FIRSTS: [FirstRow; 11] = [
         byte: 0x60,
         cycles: 3,
         second: 0xd0,
+        or: 0x00,
         looks: Looks::Block,
         then: Then::Second,
         ready: true,
         waits: Waits::Nobody,
         clears: false,
+        closes: false,
+        copies: false,
         one: 0x00,
         other: 0x00,
         option: 16,
@@ -435,11 +453,14 @@ const FIRSTS: [FirstRow; 11] = [
         byte: 0x70,
         cycles: 0,
         second: 0x00,
+        or: 0x00,
         looks: Looks::Nothing,
         then: Then::Status,
         ready: false,
         waits: Waits::Others,
         clears: false,
+        closes: false,
+        copies: false,
         one: 0x00,
         other: 0x00,
         option: 16,
@@ -448,11 +469,14 @@ const FIRSTS: [FirstRow; 11] = [
         byte: 0x78,
         cycles: 3,
         second: 0x00,
+        or: 0x00,
         looks: Looks::Lun,
         then: Then::Status,
         ready: false,
         waits: Waits::Nobody,
         clears: false,
+        closes: false,
+        copies: false,
         one: 0x00,
         other: 0x00,
         option: 3,
@@ -461,11 +485,14 @@ const FIRSTS: [FirstRow; 11] = [
         byte: 0x80,
         cycles: 5,
         second: 0x10,
+        or: 0x00,
         looks: Looks::Page,
         then: Then::Data,
         ready: true,
         waits: Waits::Nobody,
         clears: true,
+        closes: true,
+        copies: false,
         one: 0x00,
         other: 0x00,
         option: 16,
@@ -474,11 +501,14 @@ const FIRSTS: [FirstRow; 11] = [
         byte: 0x90,
         cycles: 1,
         second: 0x00,
+        or: 0x00,
         looks: Looks::Nothing,
         then: Then::Id,
         ready: false,
         waits: Waits::All,
         clears: false,
+        closes: false,
+        copies: false,
         one: 0x00,
         other: 0x20,
         option: 16,
@@ -487,11 +517,14 @@ const FIRSTS: [FirstRow; 11] = [
         byte: 0xec,
         cycles: 1,
         second: 0x00,
+        or: 0x00,
         looks: Looks::Nothing,
         then: Then::ParameterPage,
         ready: false,
         waits: Waits::All,
         clears: false,
+        closes: false,
+        copies: false,
         one: 0x00,
         other: 0x00,
         option: 16,
@@ -500,11 +533,14 @@ const FIRSTS: [FirstRow; 11] = [
         byte: 0xee,
         cycles: 1,
         second: 0x00,
+        or: 0x00,
         looks: Looks::Nothing,
         then: Then::FeatureOut,
         ready: false,
         waits: Waits::All,
         clears: false,
+        closes: false,
+        copies: false,
         one: 0x01,
         other: 0x01,
         option: 2,
@@ -513,14 +549,33 @@ const FIRSTS: [FirstRow; 11] = [
         byte: 0xef,
         cycles: 1,
         second: 0x00,
+        or: 0x00,
         looks: Looks::Nothing,
         then: Then::FeatureIn,
         ready: false,
         waits: Waits::All,
         clears: false,
+        closes: false,
+        copies: false,
         one: 0x01,
         other: 0x01,
         option: 2,
+    },
+    FirstRow {
+        byte: 0x85,
+        cycles: 5,
+        second: 0x10,
+        or: 0x00,
+        looks: Looks::Page,
+        then: Then::Data,
+        ready: true,
+        waits: Waits::Nobody,
+        clears: false,
+        closes: false,
+        copies: true,
+        one: 0x00,
+        other: 0x00,
+        option: 4,
     },
 ];
 
@@ -546,6 +601,7 @@ pub fn first_of(v: u8) -> FirstFound
         0xec => FirstFound::Found(First::ParameterPage),
         0xee => FirstFound::Found(First::GetFeatures),
         0xef => FirstFound::Found(First::SetFeatures),
+        0x85 => FirstFound::Found(First::CopybackProgram),
         _ => FirstFound::Nothing,
     }
 }
@@ -566,6 +622,7 @@ pub fn place_of(f: First) -> usize
         First::ParameterPage => 8,
         First::GetFeatures => 9,
         First::SetFeatures => 10,
+        First::CopybackProgram => 11,
     }
 }
 
@@ -589,6 +646,14 @@ pub fn end_of(f: First) -> u8
 {
     let row = row_of(f);
     row.second
+}
+
+// Another second command that may stand for its own.
+pub fn other_end(f: First) -> u8
+    ensures { λ r. ⌜ r ≡ otherEnd f ⌝ }
+{
+    let row = row_of(f);
+    row.or
 }
 
 pub fn looks_of(f: First) -> Looks
@@ -624,6 +689,22 @@ pub fn clears_register(f: First) -> bool
 {
     let row = row_of(f);
     row.clears
+}
+
+// Its row closes the LUN's copyback.
+pub fn closes_copyback(f: First) -> bool
+    ensures { λ r. ⌜ r ≡ closesCopyback f ⌝ }
+{
+    let row = row_of(f);
+    row.closes
+}
+
+// Its row wants the LUN's copyback open.
+pub fn needs_copyback(f: First) -> bool
+    ensures { λ r. ⌜ r ≡ needsCopyback f ⌝ }
+{
+    let row = row_of(f);
+    row.copies
 }
 
 // The one address of 90h, ECh, EEh or EFh is one that it knows.
@@ -663,6 +744,21 @@ pub fn waits_second(f: First) -> bool
     }
 }
 
+// Data goes into a program once its addresses have come.
+pub fn takes_program_data(f: First) -> bool
+    ensures { λ b. ⌜ b ≡ takesProgramData f ⌝ }
+{
+    match then_of(f) {
+        Then::Second => false,
+        Then::Data => true,
+        Then::FeatureIn => false,
+        Then::Status => false,
+        Then::Id => false,
+        Then::ParameterPage => false,
+        Then::FeatureOut => false,
+    }
+}
+
 // The part has the command.
 pub fn offered_to(w: Words, f: First) -> bool
     ensures { λ b. ⌜ b ≡ offeredTo w f ⌝ }
@@ -671,11 +767,11 @@ pub fn offered_to(w: Words, f: First) -> bool
     (row.option == 16) | has_option(w, row.option)
 }
 
-// The part has the command of this byte, if it opens a sequence: others are always there.
-pub fn offered(w: Words, v: u8) -> bool
-    ensures { λ b. ⌜ b ≡ offered w v ⌝ }
+// The part has the first command.
+pub fn offered_first(w: Words, k: FirstFound) -> bool
+    ensures { λ b. ⌜ b ≡ offeredFound w k ⌝ }
 {
-    match first_of(v) {
+    match k {
         FirstFound::Nothing => true,
         FirstFound::Found(f) => offered_to(w, f),
     }
@@ -701,15 +797,24 @@ pub struct SecondRow {
     // the register is put out from the column on
     pub shows: bool,
     pub act: Act,
+    // a copyback is open on the LUN from it on
+    pub opens: bool,
+    // the LUN's copyback is closed
+    pub closes: bool,
+    // the bit of the optional-command word that offers it; 16 where every part has it
+    pub option: u8,
 }
 
-const SECONDS: [SecondRow; 5] = [
+const SECONDS: [SecondRow; 6] = [
     SecondRow {
         byte: 0x30,
         starts: true,
         guarded: false,
         shows: true,
         act: Act::Load,
+        opens: false,
+        closes: true,
+        option: 16,
     },
     SecondRow {
         byte: 0xe0,
@@ -717,6 +822,9 @@ const SECONDS: [SecondRow; 5] = [
         guarded: false,
         shows: true,
         act: Act::Nothing,
+        opens: false,
+        closes: false,
+        option: 16,
     },
     SecondRow {
         byte: 0x10,
@@ -724,6 +832,9 @@ const SECONDS: [SecondRow; 5] = [
         guarded: true,
         shows: false,
         act: Act::Program,
+        opens: false,
+        closes: false,
+        option: 16,
     },
     SecondRow {
         byte: 0xd0,
@@ -731,6 +842,9 @@ const SECONDS: [SecondRow; 5] = [
         guarded: true,
         shows: false,
         act: Act::Erase,
+        opens: false,
+        closes: true,
+        option: 16,
     },
     SecondRow {
         byte: 0x85,
@@ -738,6 +852,19 @@ const SECONDS: [SecondRow; 5] = [
         guarded: false,
         shows: false,
         act: Act::Move,
+        opens: false,
+        closes: false,
+        option: 16,
+    },
+    SecondRow {
+        byte: 0x35,
+        starts: true,
+        guarded: false,
+        shows: true,
+        act: Act::Load,
+        opens: true,
+        closes: false,
+        option: 4,
     },
 ];
 
@@ -757,6 +884,7 @@ pub fn second_of(v: u8) -> SecondFound
         0x10 => SecondFound::Found(Second::StartProgram),
         0xd0 => SecondFound::Found(Second::StartErase),
         0x85 => SecondFound::Found(Second::Move),
+        0x35 => SecondFound::Found(Second::StartCopyback),
         _ => SecondFound::Nothing,
     }
 }
@@ -771,6 +899,7 @@ pub fn second_place(s: Second) -> usize
         Second::StartProgram => 2,
         Second::StartErase => 3,
         Second::Move => 4,
+        Second::StartCopyback => 5,
     }
 }
 
@@ -780,4 +909,34 @@ pub fn second_row(s: Second) -> SecondRow
 {
     let i = second_place(s);
     SECONDS[i]
+}
+
+// The part has the second command.
+pub fn offered_second(w: Words, k: SecondFound) -> bool
+    ensures { λ b. ⌜ b ≡ offeredSecond w k ⌝ }
+{
+    match k {
+        SecondFound::Nothing => true,
+        SecondFound::Found(s) => {
+            let row = second_row(s);
+            (row.option == 16) | has_option(w, row.option)
+        }
+    }
+}
+
+pub fn is_second_found(k: SecondFound) -> bool
+    ensures { λ b. ⌜ b ≡ isSecondFound k ⌝ }
+{
+    match k {
+        SecondFound::Nothing => false,
+        SecondFound::Found(_) => true,
+    }
+}
+
+// The part has the command of this byte. While a sequence is open a byte of both lists is the second command: 85h, a program's move.
+pub fn offered(w: Words, inside: bool, v: u8) -> bool
+    ensures { λ b. ⌜ b ≡ offered w inside v ⌝ }
+{
+    let second = second_of(v);
+    offered_second(w, second) & ((inside & is_second_found(second)) | offered_first(w, first_of(v)))
 }

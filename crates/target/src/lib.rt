@@ -48,6 +48,8 @@ pub struct Ids {
 pub struct Lun {
     pub working: bool,
     pub fail: bool,
+    // a copyback is open: 35h has read a page, and 85h may program it
+    pub copyback: bool,
 }
 
 // A record for each LUN that a target may have.
@@ -77,6 +79,8 @@ pub enum First {
     GetFeatures,
     // EFh
     SetFeatures,
+    // 85h with no sequence open: what the register holds is programmed
+    CopybackProgram,
 }
 
 // The second commands; `commands::SECONDS` is their list.
@@ -91,6 +95,8 @@ pub enum Second {
     StartErase,
     // 85h inside a program: its data goes on at another column
     Move,
+    // 35h: the page is read, and a copyback is open
+    StartCopyback,
 }
 
 // Column cycles: `got` of two have come, the first of which was `low`.
@@ -116,14 +122,16 @@ pub struct Wait {
     pub row: Row,
 }
 
-// A program that takes data; `at` is the place of the next byte.
+// A program that takes data, opened by 80h or 85h; `at` is the place of the next byte.
 pub struct Fill {
+    pub first: First,
     pub row: Row,
     pub at: Column,
 }
 
 // 85h inside a program: `got` of its two column cycles have come.
 pub struct Moved {
+    pub first: First,
     pub row: Row,
     pub got: u8,
     pub low: u8,
@@ -204,6 +212,7 @@ pub enum Refusal {
     LineHeld,
     BadRecord,
     NotUsable,
+    NoCopyback,
 }
 
 pub enum Verdict {
@@ -251,7 +260,7 @@ pub enum Work {
     },
 }
 
-// Document 01's number of a refusal.
+// The number of a refusal.
 pub fn number(r: Refusal) -> u8
     ensures { λ n. ⌜ n ≡ numberOf r ⌝ }
 {
@@ -269,6 +278,7 @@ pub fn number(r: Refusal) -> u8
         Refusal::LineHeld => 11,
         Refusal::BadRecord => 12,
         Refusal::NotUsable => 13,
+        Refusal::NoCopyback => 14,
     }
 }
 

@@ -3,30 +3,41 @@ use crate::Lun;
 use crate::Luns;
 ghost use mathlib.Core.Path.{_≡_};
 ghost use mathlib.Core.Bool.{not};
-ghost use Rattle.target.specs.Luns.{lunReady, lunBegun, lunFinished, isReady, lunAt, works, failed, anyWorks, othersWork};
+ghost use Rattle.target.specs.Luns.{lunReady, lunBegun, lunFinished, lunClosed, isReady, lunAt, works, failed, copybackAt, anyWorks, othersWork};
 
-// Ready, with FAIL 0.
+// Ready, with FAIL 0 and no copyback.
 pub fn lun_ready() -> Lun
     ensures { λ r. ⌜ r ≡ lunReady ⌝ }
 {
     Lun {
         working: false,
         fail: false,
+        copyback: false,
     }
 }
 
-// Work begins, and sets FAIL afresh.
-pub fn lun_begun(old: Lun, fail: bool) -> Lun
-    ensures { λ r. ⌜ r ≡ lunBegun old fail ⌝ }
+// Work begins, and sets FAIL afresh; it may open a copyback, or close the one that is open.
+pub fn lun_begun(old: Lun, fail: bool, opens: bool, closes: bool) -> Lun
+    ensures { λ r. ⌜ r ≡ lunBegun old fail opens closes ⌝ }
 {
     Lun {
         working: true,
         fail,
+        copyback: opens | (old.copyback & !closes),
+    }
+}
+
+// A row closes the copyback.
+pub fn lun_closed(old: Lun) -> Lun
+    ensures { λ r. ⌜ r ≡ lunClosed old ⌝ }
+{
+    Lun {
+        copyback: false,
         ..old
     }
 }
 
-// Work has come to its end; FAIL stays.
+// Work has come to its end; FAIL and the copyback stay.
 pub fn lun_finished(old: Lun) -> Lun
     ensures { λ r. ⌜ r ≡ lunFinished old ⌝ }
 {
@@ -40,7 +51,7 @@ pub fn lun_finished(old: Lun) -> Lun
 pub fn is_ready(x: Lun) -> bool
     ensures { λ b. ⌜ b ≡ isReady x ⌝ }
 {
-    !x.working & !x.fail
+    !x.working & !x.fail & !x.copyback
 }
 
 // The LUN's record; one that does not exist is ready.
@@ -63,6 +74,14 @@ pub fn failed(luns: Luns, l: usize) -> bool
 {
     let x = lun_at(luns, l);
     x.fail
+}
+
+// A copyback is open on the LUN.
+pub fn copyback_at(luns: Luns, l: usize) -> bool
+    ensures { λ b. ⌜ b ≡ copybackAt luns l ⌝ }
+{
+    let x = lun_at(luns, l);
+    x.copyback
 }
 
 pub fn any_works(luns: Luns) -> bool

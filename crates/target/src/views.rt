@@ -12,11 +12,12 @@ use crate::address::row_from;
 use crate::commands::SecondFound;
 use crate::commands::end_of;
 use crate::commands::needs_ready;
+use crate::commands::other_end;
 use crate::commands::second_of;
 use crate::commands::takes_row;
 ghost use mathlib.Core.Path.{_≡_};
 ghost use Rattle.target.specs.Pick.{pick};
-ghost use Rattle.target.specs.Views.{asksSelected, completed, taking, ending, endedBy};
+ghost use Rattle.target.specs.Views.{asksSelected, completed, taking, ending, endedBy, endsWith};
 
 // A whole column; `asks` says that no row follows, so that 5 is asked of the selected LUN with it.
 pub struct ColumnGiven {
@@ -51,12 +52,12 @@ pub enum Taker {
     Feature(FeatureBytes),
 }
 
-// A second command that fits, with the addresses that the sequence has; `rowed` says that there is a row among them.
+// A second command that fits, with the command that opened the sequence and the addresses that it has.
 pub struct Ended {
+    pub first: First,
     pub second: Second,
     pub column: Column,
     pub row: Row,
-    pub rowed: bool,
 }
 
 // The second command that ends the sequence.
@@ -137,22 +138,29 @@ pub fn taking(s: Sequence) -> Taker
     }
 }
 
-// The second command of this byte, with the addresses that the sequence has.
-pub fn ended_by(v: u8, column: Column, row: Row, rowed: bool) -> Ender
-    ensures { λ r. ⌜ r ≡ endedBy v column row rowed ⌝ }
+// The second command of this byte, with what the sequence has.
+pub fn ended_by(v: u8, first: First, column: Column, row: Row) -> Ender
+    ensures { λ r. ⌜ r ≡ endedBy v first column row ⌝ }
 {
     match second_of(v) {
         SecondFound::Nothing => Ender::Nothing,
         SecondFound::Found(second) => {
             let ended = Ended {
+                first,
                 second,
                 column,
                 row,
-                rowed,
             };
             Ender::By(ended)
         }
     }
+}
+
+// The byte is the first command's second one, or the other that may stand for it.
+pub fn ends_with(f: First, v: u8) -> bool
+    ensures { λ b. ⌜ b ≡ endsWith f v ⌝ }
+{
+    (v == end_of(f)) | (v == other_end(f))
 }
 
 pub fn ending(s: Sequence, v: u8) -> Ender
@@ -167,13 +175,14 @@ pub fn ending(s: Sequence, v: u8) -> Ender
             let f = k.first;
             let column = k.column;
             let row = k.row;
-            let ended = ended_by(v, column, row, takes_row(f));
-            pick_ending(v == end_of(f), ended, Ender::Nothing)
+            let ended = ended_by(v, f, column, row);
+            pick_ending(ends_with(f, v), ended, Ender::Nothing)
         }
         Sequence::Filling(k) => {
+            let f = k.first;
             let column = k.at;
             let row = k.row;
-            let ended = ended_by(v, column, row, true);
+            let ended = ended_by(v, f, column, row);
             pick_ending((v == 0x10) | (v == 0x85), ended, Ender::Nothing)
         }
         Sequence::Moving(_) => Ender::Nothing,

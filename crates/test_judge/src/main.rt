@@ -80,7 +80,7 @@ fn one_line(
 ) {
     let mut g = [0usize; 80];
     g[place::SHOW] = shown;
-    if line < 336 {
+    if line < 352 {
         run_line(
             &mut g,
             seed,
@@ -150,7 +150,7 @@ fn main() {
         all_lines(1, argument(4, 1), argument(5, 1), line, add(line, 1));
     } else {
         print_heading();
-        let total = all_lines(0, argument(1, 1), argument(2, 1), 0, 340);
+        let total = all_lines(0, argument(1, 1), argument(2, 1), 0, 356);
         print_totals(&total);
     }
 }

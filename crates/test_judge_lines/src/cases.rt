@@ -95,7 +95,7 @@ const LIMITS: [LimitRow; 58] = [
     LimitRow(field::MANY, 0),
     LimitRow(field::MANY, 1),
     LimitRow(field::OPTIONS, 0),
-    LimitRow(field::OPTIONS, 15),
+    LimitRow(field::OPTIONS, 31),
 ];
 
 fn limit_row(i: usize) -> LimitRow {
@@ -174,7 +174,7 @@ fn bad_page_length(g: &mut State) {
 
 fn every_job(g: &mut State, records: &mut Bytes) {
     let mut job: usize = 0;
-    while job < 16 {
+    while job < 20 {
         one_job(g, records, job);
         job += 1;
     }

@@ -146,12 +146,13 @@ fn feature_bits(g: &mut State) -> usize {
 fn optional_bits(g: &mut State) -> usize {
     let options = g[field::OPTIONS];
     let low = below(g, 4);
-    let middle = below(g, 4);
+    let middle = below(g, 2);
     let high = below(g, 512);
     low % 4
         + options / 4 % 2 * 4
         + options % 2 * 8
-        + middle % 4 * 16
+        + options / 16 % 2 * 16
+        + middle % 2 * 32
         + options / 2 % 2 * 64
         + high % 512 * 128
 }

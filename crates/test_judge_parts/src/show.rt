@@ -27,9 +27,9 @@ fn numbers(g: &State, first: usize, end: usize) {
     }
 }
 
-// Refusals 1 to 13 and 16.
+// Refusals 1 to 14 and 16.
 fn refused(g: &State) {
-    numbers(g, 49, 62);
+    numbers(g, 49, 63);
     numbers(g, 64, 65);
 }
 
@@ -41,7 +41,7 @@ fn powered(g: &State) {
 
 pub fn print_heading() {
     text(
-        b"# part kind events digest digest  refused 1-13 16  accepted 0-5  (part 21: power-on 0 20-25)\n",
+        b"# part kind events digest digest  refused 1-14 16  accepted 0-5  (part 22: power-on 0 20-25)\n",
     );
 }
 
@@ -59,7 +59,7 @@ pub fn print_line(g: &State, part: usize, kind: usize) {
     refused(g);
     text(b" ");
     numbers(g, 74, 80);
-    if part == 21 {
+    if part == 22 {
         text(b" ");
         powered(g);
     }
@@ -74,7 +74,7 @@ fn total_digests(total: &State) {
 
 pub fn print_totals(total: &State) {
     total_digests(total);
-    text(b"\nrefused 1-13 16:");
+    text(b"\nrefused 1-14 16:");
     refused(total);
     text(b"\naccepted command address in out finish protect:");
     numbers(total, 74, 80);

@@ -244,10 +244,10 @@ fn absorb_rest<'a>(t: Target, g: &mut State, page: &'a [u8], registers: &'a [u8]
     show(g, b" rest ", which, u.at, u.count, 0);
 }
 
-// The record of a spoiled event: data out for a legal one (43: data in), which changes no lent byte, else any.
+// The record of a spoiled event: data out for a legal one (43, 53: data in), which changes no lent byte, else any.
 fn spoiled_kind(g: &mut State, what: usize) -> usize {
     if is_legal(what) {
-        if what == 43 { 2 } else { 3 }
+        if (what == 43) | (what == 53) { 2 } else { 3 }
     } else {
         below(g, 6)
     }

@@ -12,6 +12,7 @@ use target::Row;
 use target::Sequence;
 use target::Target;
 use target::Wait;
+use target::Words;
 use target::sizes::page_size;
 use test_judge_parts::field;
 use test_judge_parts::parts::lend;
@@ -78,6 +79,16 @@ fn spoil_number(t: Target, what: usize) -> Target {
             Target { geometry, ..t }
         }
     }
+}
+
+// Spoils of the feature word: bit 0 set, bit 1 clear.
+fn spoil_words(w: Words, what: usize) -> Words {
+    let features = if what == 48 {
+        w.features | 1
+    } else {
+        w.features & 0xfffd
+    };
+    Words { features, ..w }
 }
 
 // Spoils of the output, and from 25 on their legal neighbours.
@@ -203,6 +214,11 @@ pub fn spoiled(t: Target, g: &State, what: usize) -> Target {
         0..=12 => spoil_number(t, what),
         13..=17 => t,
         30 => spoil_number(t, what),
+        48 | 49 => {
+            let w = t.words;
+            let words = spoil_words(w, what);
+            Target { words, ..t }
+        }
         18..=29 => with_output(t, spoil_output(p, what)),
         31..=42 => with_sequence(t, spoil_sequence(p, g, what)),
         _ => with_sequence(t, legal_sequence(p, g, what)),
@@ -235,9 +251,12 @@ fn fills_bits(n: usize) -> bool {
 
 // Some spoils can't be written down for every part.
 pub fn pick_spoil(g: &mut State) -> usize {
-    let what = below(g, 47);
-    if (g[field::LUNS] == 4) & ((what == 12) | (what == 30)) {
+    let what = below(g, 55);
+    if (g[field::LUNS] == 4) & ((what == 12) | (what == 30) | (what == 47)) {
         return 11;
+    }
+    if (g[field::LUNS] == 1) & (what == 49) {
+        return 48;
     }
     if fills_bits(g[field::BLOCKS]) & ((what == 39) | (what == 41)) {
         return 35;
@@ -249,5 +268,5 @@ pub fn pick_spoil(g: &mut State) -> usize {
 }
 
 pub fn is_legal(what: usize) -> bool {
-    ((25 <= what) & (what <= 29)) | (43 <= what)
+    ((25 <= what) & (what <= 29)) | ((43 <= what) & (what <= 46)) | (53 <= what)
 }

@@ -34,17 +34,22 @@ fn take_from(g: &mut State, records: &mut Bytes, column: usize) {
     take_out(g, records, n);
 }
 
-fn read_page(g: &mut State, records: &mut Bytes, lun: usize, row: usize) {
+// 00h, a row, and 30h or 35h.
+fn load_page(g: &mut State, records: &mut Bytes, lun: usize, row: usize, second: usize) {
     let column = pick_column(g);
     make_ready(g, records, lun);
     command(g, records, 0x00);
     put_column(g, records, column);
     put_row(g, records, lun, row);
-    command(g, records, 0x30);
+    command(g, records, second);
     begin_work(g, records, lun);
     if half(g) {
         take_from(g, records, column);
     }
+}
+
+fn read_page(g: &mut State, records: &mut Bytes, lun: usize, row: usize) {
+    load_page(g, records, lun, row, 0x30);
 }
 
 fn job_read(g: &mut State, records: &mut Bytes) {
@@ -92,11 +97,12 @@ fn move_data(g: &mut State, records: &mut Bytes) {
     give_data(g, records, column);
 }
 
-fn program_page(g: &mut State, records: &mut Bytes, lun: usize, row: usize) {
+// 80h or 85h, a row, data and moves, 10h.
+fn fill_page(g: &mut State, records: &mut Bytes, lun: usize, row: usize, first: usize) {
     let column = pick_column(g);
     let moves = below(g, 3);
     make_ready(g, records, lun);
-    command(g, records, 0x80);
+    command(g, records, first);
     put_column(g, records, column);
     put_row(g, records, lun, row);
     give_data(g, records, column);
@@ -108,6 +114,10 @@ fn program_page(g: &mut State, records: &mut Bytes, lun: usize, row: usize) {
     }
     command(g, records, 0x10);
     begin_work(g, records, lun);
+}
+
+fn program_page(g: &mut State, records: &mut Bytes, lun: usize, row: usize) {
+    fill_page(g, records, lun, row, 0x80);
 }
 
 fn job_program(g: &mut State, records: &mut Bytes) {
@@ -250,16 +260,90 @@ fn job_set(g: &mut State, records: &mut Bytes) {
     }
 }
 
+// The start of a program or of an erase, up to its row.
+fn start_row(g: &mut State, records: &mut Bytes, what: usize) {
+    if what == 2 {
+        command(g, records, 0x60);
+    } else {
+        command(g, records, 0x80);
+        put_column(g, records, 0);
+    }
+}
+
+// A row of 80h, whole or one cycle short, or of 60h, and a command that doesn't fit.
+fn job_give_up(g: &mut State, records: &mut Bytes) {
+    let what = below(g, 3);
+    let lun = pick_lun(g);
+    let row = pick_row(g, lun);
+    make_ready(g, records, lun);
+    start_row(g, records, what);
+    if what == 0 {
+        address(g, records, row % 256);
+        address(g, records, row / 256 % 256);
+    } else {
+        put_row(g, records, lun, row);
+    }
+    command(g, records, 0x70);
+}
+
+fn job_copy_read(g: &mut State, records: &mut Bytes) {
+    let lun = pick_lun(g);
+    let row = pick_row(g, lun);
+    load_page(g, records, lun, row, 0x35);
+}
+
+fn job_copy_write(g: &mut State, records: &mut Bytes) {
+    let lun = pick_lun(g);
+    let row = pick_row(g, lun);
+    fill_page(g, records, lun, row, 0x85);
+}
+
+// What may come between a copyback's halves: half of the time nothing.
+fn between_halves(g: &mut State, records: &mut Bytes) {
+    match below(g, 12) {
+        0 => job_program(g, records),
+        1 => job_erase(g, records),
+        2 => job_read(g, records),
+        3 => job_lun_status(g, records),
+        4 => job_copy_read(g, records),
+        5 => job_give_up(g, records),
+        _ => {}
+    }
+}
+
+// The LUN that a copy is written to: mostly the one that it was read from.
+fn copied_to(g: &mut State, lun: usize) -> usize {
+    if below(g, 6) == 0 { pick_lun(g) } else { lun }
+}
+
+// A page copied; at times once more, and at times read back.
+fn job_copy(g: &mut State, records: &mut Bytes) {
+    let from = pick_lun(g);
+    let row = pick_row(g, from);
+    load_page(g, records, from, row, 0x35);
+    between_halves(g, records);
+    let lun = copied_to(g, from);
+    let row = pick_row(g, lun);
+    fill_page(g, records, lun, row, 0x85);
+    if below(g, 4) == 0 {
+        fill_page(g, records, lun, row, 0x85);
+    }
+    if below(g, 2) == 0 {
+        read_page(g, records, lun, row);
+    }
+}
+
 // The line goes low, something is tried, and mostly it goes high again.
 fn job_low(g: &mut State, records: &mut Bytes) {
-    let what = below(g, 3);
+    let what = below(g, 4);
     let back = below(g, 8);
     make_all_ready(g, records);
     put(g, records, 5, 0);
     match what {
         0 => job_program(g, records),
         1 => job_erase(g, records),
-        _ => job_read(g, records),
+        2 => job_read(g, records),
+        _ => job_copy(g, records),
     }
     make_all_ready(g, records);
     job_status(g, records);
@@ -321,7 +405,11 @@ fn data_job(g: &mut State, records: &mut Bytes, job: usize) {
         3 => job_program(g, records),
         4 => job_erase(g, records),
         14 => job_back(g, records),
-        _ => job_twice(g, records),
+        15 => job_twice(g, records),
+        16 => job_copy(g, records),
+        17 => job_copy_read(g, records),
+        18 => job_copy_write(g, records),
+        _ => job_give_up(g, records),
     }
 }
 

@@ -253,7 +253,7 @@ pub fn make_all_ready(g: &mut State, records: &mut Bytes) {
     }
 }
 
-// After 30h, 10h, D0h: half of the time the finish follows.
+// After 30h, 35h, 10h, D0h: half of the time the finish follows.
 pub fn begin_work(g: &mut State, records: &mut Bytes, lun: usize) {
     set_busy(g, lun);
     if half(g) {

@@ -14,19 +14,18 @@ use test_judge_parts::state::State;
 use test_judge_parts::state::fetch;
 use test_judge_parts::state::store;
 use test_kit::numbers::add;
-use test_kit::numbers::byte;
 use test_kit::numbers::get;
-use test_kit::numbers::hex_digit;
 use test_kit::numbers::sub;
 use test_kit::numbers::times;
 
-// The commands of document 01; FFh comes last, so that it is easily left out.
-const COMMANDS: [usize; 17] = [
+// The commands there are; FFh comes last, so that it is easily left out.
+const COMMANDS: [usize; 18] = [
     0x00,
     0x05,
     0x06,
     0x10,
     0x30,
+    0x35,
     0x60,
     0x70,
     0x78,
@@ -42,39 +41,48 @@ const COMMANDS: [usize; 17] = [
 ];
 
 fn known_command(i: usize) -> usize {
-    if i < 17 { COMMANDS[i] } else { 0 }
+    if i < 18 { COMMANDS[i] } else { 0 }
 }
 
-// The mix of jobs of each kind of trace: sixteen jobs, a hex digit each, four kinds in a row. Kinds 7 and 8 are noise, and
-// have none.
+// A job's digit: 0 to 9, then A and on.
+fn job_of(digit: usize) -> usize {
+    if digit < 65 {
+        sub(digit, 48)
+    } else {
+        sub(digit, 55)
+    }
+}
+
+// The mix of jobs of each kind of trace: twenty jobs, a digit each, four kinds in a row. Kinds 7 and 8 are noise, and have
+// none.
 fn mix(kind: usize, i: usize) -> usize {
-    let at = add(kind % 4 * 16, i);
+    let at = add(kind % 4 * 20, i);
     let digit = match kind / 4 {
         0 => get(
-            b"0012333456789AEF000112333445556E0012333456789AAE333444BBBB650EAC",
+            b"0012333456789AEFGGIJ000112333445556EGGHI0012333456789AAEGGIJ333444BBBB650EACGGII",
             at,
         ),
         1 => get(
-            b"011223337789AE5299AAAA33301E2C450012333456789AEF0000000000000000",
+            b"011223337789AE52GGGJ99AAAA33301E2C45GGHJ0012333456789AEFGGIJ00000000000000000000",
             at,
         ),
         2 => get(
-            b"000000000000000001233455667789AD0012333456789AEC0012333456789AEC",
+            b"0000000000000000000001233455667789ADGHIJ0012333456789AECGGIJ0012333456789AECGGIJ",
             at,
         ),
         _ => get(
-            b"001122334455789A001122334566789A333344EEFFFF560E0123456789ABCDEF",
+            b"001122334455789AGHIJ001122334566789AGHIJ333344EEFFFF560EGGHI0123456789ABCDEFGHIJ",
             at,
         ),
     };
-    hex_digit(byte(digit))
+    job_of(digit)
 }
 
 fn near_command(g: &mut State) -> usize {
     match below(g, 40) {
         0 => 255,
         1 | 2 => below(g, 256),
-        _ => known_command(below(g, 16)),
+        _ => known_command(below(g, 17)),
     }
 }
 
@@ -216,7 +224,7 @@ fn make_wrong(g: &mut State, records: &mut Bytes, from: usize) {
 
 fn put_job(g: &mut State, records: &mut Bytes, kind: usize) {
     let from = g[place::LEN];
-    let job = mix(kind, below(g, 16));
+    let job = mix(kind, below(g, 20));
     one_job(g, records, job);
     if sometimes(g, knob::WRONG) {
         make_wrong(g, records, from);

@@ -13,7 +13,7 @@ use Rattle.target.specs.Numbers.{numberOf}
 use Rattle.target.specs.declared.Event.{Event}
 use Rattle.target.specs.declared.Target.{Target}
 use Rattle.target.specs.declared.Refusal.{Refusal}
-use Rattle.target.specs.declared.Refusal.the-variants.{Unknown, BeforeReset, Misplaced, OutOfRange, LunWorks, OthersWork, Protected, PastEnd, NotOffered, NotWorking, LineHeld, BadRecord, NotUsable}
+use Rattle.target.specs.declared.Refusal.the-variants.{Unknown, BeforeReset, Misplaced, OutOfRange, LunWorks, OthersWork, Protected, PastEnd, NotOffered, NotWorking, LineHeld, BadRecord, NotUsable, NoCopyback}
 use Rattle.target.specs.declared.Reply.{Reply}
 use Rattle.target.specs.declared.Reply.the-variants as reply
 use Rattle.target.specs.declared.Verdict.{Verdict}
@@ -31,7 +31,7 @@ apart h = omega arith
 
 -- a refusal is told by its number
 abbrev named : ℕ → Refusal
-named n = getD (Unknown ∷ Unknown ∷ BeforeReset ∷ Misplaced ∷ OutOfRange ∷ LunWorks ∷ OthersWork ∷ Protected ∷ PastEnd ∷ NotOffered ∷ NotWorking ∷ LineHeld ∷ BadRecord ∷ NotUsable ∷ []) n Unknown
+named n = getD (Unknown ∷ Unknown ∷ BeforeReset ∷ Misplaced ∷ OutOfRange ∷ LunWorks ∷ OthersWork ∷ Protected ∷ PastEnd ∷ NotOffered ∷ NotWorking ∷ LineHeld ∷ BadRecord ∷ NotUsable ∷ NoCopyback ∷ []) n Unknown
 
 named-number : (r : Refusal) → named (numberOf r) ≡ r
 named-number Unknown = refl
@@ -47,6 +47,7 @@ named-number NotWorking = refl
 named-number LineHeld = refl
 named-number BadRecord = refl
 named-number NotUsable = refl
+named-number NoCopyback = refl
 
 pub by-number : (r q : Refusal) → numberOf r ≡ numberOf q → r ≡ q
 by-number r q h = sym (named-number r) ∙ ap named h ∙ named-number q
@@ -173,7 +174,7 @@ module _ (t : Target) (e : Event) (page : List ℕ) (b : Buffers) (flags : List 
   unfolding distinct listed rulesOf rules
   all-distinct = refl
 
-  in-order : numbers (rulesOf t e page b flags) ≡ 13 ∷ 12 ∷ 2 ∷ 1 ∷ 3 ∷ 6 ∷ 4 ∷ 9 ∷ 5 ∷ 7 ∷ 8 ∷ 10 ∷ 11 ∷ []
+  in-order : numbers (rulesOf t e page b flags) ≡ 13 ∷ 12 ∷ 2 ∷ 1 ∷ 3 ∷ 6 ∷ 4 ∷ 9 ∷ 5 ∷ 14 ∷ 7 ∷ 8 ∷ 10 ∷ 11 ∷ []
   unfolding rulesOf rules
   in-order = refl
 

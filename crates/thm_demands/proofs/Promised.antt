@@ -13,9 +13,9 @@ use Rattle.target.specs.Pick.{pick, orElse}
 use Rattle.target.specs.Events.{isBus, isReset, badRecord}
 use Rattle.target.specs.Luns.{allReady}
 use Rattle.target.specs.Numbers.{numberOf}
-use Rattle.target.specs.Views.{completed, taking, ending, endedBy, endedWith}
+use Rattle.target.specs.Views.{completed, taking, ending, endedBy, endedWith, endsWith}
 use Rattle.target.specs.Place.{isOpen}
-use Rattle.target.specs.Commands.{rowOf, firstOf, secondOf, secondRow, endOf, takesRow, clearsRegister, classOf, offered}
+use Rattle.target.specs.Commands.{rowOf, firstOf, secondOf, secondRow, clearsRegister, classOf, offered}
 use Rattle.target.specs.Sizes.{inLimits, sized}
 use Rattle.target.specs.declared.Event.{Event}
 use Rattle.target.specs.declared.Geometry.{Geometry}
@@ -24,8 +24,9 @@ use Rattle.target.specs.declared.Decoder.{Decoder}
 use Rattle.target.specs.declared.Row.{Row}
 use Rattle.target.specs.declared.Column.{Column}
 use Rattle.target.specs.declared.Findings.{Findings}
+use Rattle.target.specs.declared.First.{First}
 use Rattle.target.specs.declared.Second.{Second}
-use Rattle.target.specs.declared.Second.the-variants.{StartRead, StartOutput, StartProgram, StartErase, Move}
+use Rattle.target.specs.declared.Second.the-variants.{StartRead, StartOutput, StartProgram, StartErase, Move, StartCopyback}
 use Rattle.target.specs.declared.commands.Act.{Act}
 use Rattle.target.specs.declared.commands.Act.the-variants as act
 use Rattle.target.specs.declared.commands.FirstFound.{FirstFound}
@@ -244,6 +245,7 @@ unguarded StartOutput h = refl
 unguarded StartProgram h = absurd (false≢true (sym h))
 unguarded StartErase h = absurd (false≢true (sym h))
 unguarded Move h = refl
+unguarded StartCopyback h = refl
 
 acted-spares : (a : Act) (r : Row) (found : Findings) → sparesAct a ≡ true → spares (acted a r found) ≡ true
 acted-spares act.Nothing r found h = refl
@@ -252,9 +254,9 @@ acted-spares act.Program r found h = absurd (false≢true h)
 acted-spares act.Erase r found h = absurd (false≢true h)
 acted-spares act.Move r found h = refl
 
-found-spares : (k : SecondFound) (c : Column) (r : Row) (rowed : Bool) (found : Findings) → isGuarded k ≡ false → spares (endedWork (endedWith k c r rowed) found) ≡ true
-found-spares second.Nothing c r rowed found h = refl
-found-spares (second.Found s) c r rowed found h = acted-spares (secondRow s .act) r found (unguarded s h)
+found-spares : (k : SecondFound) (f : First) (c : Column) (r : Row) (found : Findings) → isGuarded k ≡ false → spares (endedWork (endedWith k f c r) found) ≡ true
+found-spares second.Nothing f c r found h = refl
+found-spares (second.Found s) f c r found h = acted-spares (secondRow s .act) r found (unguarded s h)
 
 ended-pick : (x : Bool) (k : Ender) (found : Findings) → spares (endedWork k found) ≡ true → spares (endedWork (pick x k ender.Nothing) found) ≡ true
 ended-pick true k found h = h
@@ -266,9 +268,9 @@ ending-spares (Columns k) v found h = refl
 ending-spares (Rows k) v found h = refl
 ending-spares (Single f) v found h = refl
 ending-spares (Due k) v found h =
-    ended-pick (eqb v (endOf (k .first))) (endedBy v (k .column) (k .row) (takesRow (k .first))) found (found-spares (secondOf v) (k .column) (k .row) (takesRow (k .first)) found h)
+    ended-pick (endsWith (k .first) v) (endedBy v (k .first) (k .column) (k .row)) found (found-spares (secondOf v) (k .first) (k .column) (k .row) found h)
 ending-spares (Filling k) v found h =
-    ended-pick (eqb v 0x10 || eqb v 0x85) (endedBy v (k .at) (k .row) true) found (found-spares (secondOf v) (k .at) (k .row) true found h)
+    ended-pick (eqb v 0x10 || eqb v 0x85) (endedBy v (k .first) (k .at) (k .row)) found (found-spares (secondOf v) (k .first) (k .at) (k .row) found h)
 ending-spares (Moving k) v found h = refl
 ending-spares (Setting k) v found h = refl
 
@@ -359,9 +361,13 @@ module _ (page : List ℕ) (device : ℕ) (array registers counts flags : List �
   run-fit [] s h = h
   run-fit (e ∷ es) s h = run-fit es (left (stepAt page flags s e)) (step-usable (s .target) e page (s .buffers) flags h)
 
+and-none : (b : Bool) → (b && false) ≡ false
+and-none true = refl
+and-none false = refl
+
 pub reset-verdict : (t : Target) → verdict t reset ≡ verdicts.Accepted
 unfolding orElse beforeReset unknown rowOf firstOf secondOf secondRow classOf offered misplaced fits othersBusy lineLow
-reset-verdict t = command-verdict t 0xff
+reset-verdict t = command-verdict t 0xff ∙ rw (and-none (isOpen (t .decoder .sequence)))
 
 reset-steady : (s : State) (page flags : List ℕ) → (steady (s .target) reset page (s .buffers) flags .reply ≡ reply.Accepted) × (steady (s .target) reset page (s .buffers) flags .target .luns ≡ allReady)
 unfolding steady byVerdict accepted acceptedBy replyOf targetAfter lunsAfter

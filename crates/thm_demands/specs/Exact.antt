@@ -17,7 +17,7 @@ use Rattle.rules.specs.Rules.{Rule, rule, rules}
 use Rattle.step.specs.Usable.{usable}
 use Rattle.step.specs.Step.{Buffers, stepOf}
 
--- the rules in document 01's order: 13, and then 12, 2, 1, 3, 6, 4, 9, 5, 7, 8; 10 and 11 are met by bench events alone
+-- the rules in document 01's order, with document 02's 14: 13, and then 12, 2, 1, 3, 6, 4, 9, 5, 14, 7, 8; 10 and 11 are met by bench events alone
 unfoldable pub rulesOf : Target → Event → List ℕ → Buffers → List ℕ → List Rule
 rulesOf t e page b flags =
     rule (not (usable t (length page) (length (b .array)) (length (b .registers)) (length (b .counts)) (length flags))) refusal.NotUsable
@@ -40,7 +40,7 @@ silent (r ∷ rs) = not (r .holds) && silent rs
 
 -- an event is refused with q exactly when q's rule is the first that holds, and not refused exactly when none does
 pub record Exact (t : Target) (e : Event) (page : List ℕ) (b : Buffers) (flags : List ℕ) : Type 0 where
-  pub order : numbers (rulesOf t e page b flags) ≡ 13 ∷ 12 ∷ 2 ∷ 1 ∷ 3 ∷ 6 ∷ 4 ∷ 9 ∷ 5 ∷ 7 ∷ 8 ∷ 10 ∷ 11 ∷ []
+  pub order : numbers (rulesOf t e page b flags) ≡ 13 ∷ 12 ∷ 2 ∷ 1 ∷ 3 ∷ 6 ∷ 4 ∷ 9 ∷ 5 ∷ 14 ∷ 7 ∷ 8 ∷ 10 ∷ 11 ∷ []
   pub only-then : (q : Refusal) → stepOf t e page b flags .reply ≡ reply.Refused q → speaks q (rulesOf t e page b flags) ≡ true
   pub always-then : (q : Refusal) → speaks q (rulesOf t e page b flags) ≡ true → stepOf t e page b flags .reply ≡ reply.Refused q
   pub else-accepted : silent (rulesOf t e page b flags) ≡ true → (q : Refusal) → stepOf t e page b flags .reply ≡ reply.Refused q → ⊥

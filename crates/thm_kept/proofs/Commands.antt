@@ -2,22 +2,22 @@
 -- that one more costs nothing here.
 --     row-looks       a command that takes a row looks at its LUN
 --     data-row        one that takes data takes a row, and looks at its page
---     starts-rowed    a second command that a first one waits for starts work only where there is a row
+--     starts-rowed    a second command that ends a first one starts work only where there is a row
 --     never-moves     and is not 85h
 -- Assumes nothing.
 use mathlib.Core.Path.{_≡_, refl, subst}
+use Prim.Native.Nat.{ℕ}
 use mathlib.Core.Bool.{Bool, true, false, _&&_, _||_, not, false≢true}
-use Rattle.target.specs.Commands.{rowOf, looksOf, thenOf, endOf, takesRow, waitsSecond, secondOf, secondRow}
+use Rattle.target.specs.Commands.{rowOf, looksOf, thenOf, takesRow, waitsSecond, isData, secondOf, secondRow}
+use Rattle.target.specs.Views.{endsWith}
 use Rattle.target.specs.declared.First.{First}
 use Rattle.target.specs.declared.Second.{Second}
 use Rattle.target.specs.declared.commands.Looks.{Looks}
 use Rattle.target.specs.declared.commands.Looks.the-variants as looks
-use Rattle.target.specs.declared.commands.Then.{Then}
-use Rattle.target.specs.declared.commands.Then.the-variants as then
 use Rattle.target.specs.declared.commands.SecondFound.{SecondFound}
 use Rattle.target.specs.declared.commands.SecondFound.the-variants as second
 use Rattle.target.proofs.Both.{both}
-use Rattle.target.proofs.Firsts.{each-first}
+use Rattle.target.proofs.Firsts.{each-first, each-end}
 use Rattle.effects.specs.Effects.{isMove}
 
 -- where a is so, b is
@@ -49,15 +49,6 @@ row-test f = each-first (λ (x : First). implied (takesRow x) (looksAtLun (looks
 pub row-looks : (f : First) → takesRow f ≡ true → looksAtLun (looksOf f) ≡ true
 row-looks f = modus (takesRow f) (looksAtLun (looksOf f)) (row-test f)
 
-abbrev pub isData : Then → Bool
-isData then.Second = false
-isData then.Data = true
-isData then.FeatureIn = false
-isData then.Status = false
-isData then.Id = false
-isData then.ParameterPage = false
-isData then.FeatureOut = false
-
 data-test : (f : First) → implied (isData (thenOf f)) (takesRow f && looksAtPage (looksOf f)) ≡ true
 unfolding rowOf
 data-test f = each-first (λ (x : First). implied (isData (thenOf x)) (takesRow x && looksAtPage (looksOf x))) refl f
@@ -76,20 +67,26 @@ abbrev movesFound : SecondFound → Bool
 movesFound second.Nothing = false
 movesFound (second.Found s) = isMove (secondRow s .act)
 
-starts-test : (f : First) → implied (waitsSecond f && startsFound (secondOf (endOf f))) (takesRow f) ≡ true
-unfolding rowOf secondOf secondRow
-starts-test f = each-first (λ (x : First). implied (waitsSecond x && startsFound (secondOf (endOf x))) (takesRow x)) refl f
+abbrev startsRowed : First → SecondFound → Bool
+startsRowed f k = implied (waitsSecond f && startsFound k) (takesRow f)
 
-moves-test : (f : First) → implied (waitsSecond f) (not (movesFound (secondOf (endOf f)))) ≡ true
-unfolding rowOf secondOf secondRow
-moves-test f = each-first (λ (x : First). implied (waitsSecond x) (not (movesFound (secondOf (endOf x))))) refl f
+abbrev neverMoves : First → SecondFound → Bool
+neverMoves f k = implied (waitsSecond f) (not (movesFound k))
 
-module _ (f : First) (waits : waitsSecond f ≡ true) (s : Second) (told : secondOf (endOf f) ≡ second.Found s) where
+starts-test : (f : First) (v : ℕ) → endsWith f v ≡ true → startsRowed f (secondOf v) ≡ true
+unfolding rowOf secondOf secondRow
+starts-test f v h = each-end startsRowed refl f v h
+
+moves-test : (f : First) (v : ℕ) → endsWith f v ≡ true → neverMoves f (secondOf v) ≡ true
+unfolding rowOf secondOf secondRow
+moves-test f v h = each-end neverMoves refl f v h
+
+module _ (f : First) (waits : waitsSecond f ≡ true) (v : ℕ) (fits : endsWith f v ≡ true) (s : Second) (told : secondOf v ≡ second.Found s) where
   pub starts-rowed : secondRow s .starts ≡ true → takesRow f ≡ true
   starts-rowed h =
-      modus (waitsSecond f && startsFound (secondOf (endOf f))) (takesRow f) (starts-test f) (rw (waits, told) h)
+      modus (waitsSecond f && startsFound (secondOf v)) (takesRow f) (starts-test f v fits) (rw (waits, told) h)
 
   pub never-moves : not (isMove (secondRow s .act)) ≡ true
   never-moves =
       subst (λ (x : SecondFound). not (movesFound x) ≡ true) told
-      (modus (waitsSecond f) (not (movesFound (secondOf (endOf f)))) (moves-test f) waits)
+      (modus (waitsSecond f) (not (movesFound (secondOf v))) (moves-test f v fits) waits)

@@ -89,7 +89,7 @@ accepted-sound t e found h p =
     let m = limits g (k .limited) in
     all-sound _ (k .powered) (k .limited) (k .words)
     (selected-kept g (t .selected) (t .decoder .sequence) e (m .luns-min) (k .selected) (k .sequence) (near t e p))
-    (marks-kept g (t .luns) (t .decoder .sequence) e found (k .sequence) (k .marks) (finishes t e p))
+    (marks-kept g (t .luns) (t .decoder .sequence) e found (k .sequence) (k .marks) (near t e p) (finishes t e p))
     (sequence-kept g (t .words) (t .decoder .sequence) e (k .sequence) (near t e p) (taken t e p))
     (output-kept g (t .selected) (t .decoder) e (k .selected) (k .sequence) (k .output) (near t e p) (more t e p))
 

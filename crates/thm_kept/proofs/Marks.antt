@@ -8,9 +8,9 @@ use native.Mathlib.Omega.{arith}
 use lib.ListN.{set}
 use lib.Seq.{getD-set-other}
 use lib.Dec.{eqb, ltb}
-use borrow.Author.Tests.{ltb-false}
-use Rattle.target.specs.Commands.{secondRow}
-use Rattle.target.specs.Views.{ending}
+use borrow.Author.Tests.{ltb-false, not-false}
+use Rattle.target.specs.Commands.{secondRow, closesCopyback}
+use Rattle.target.specs.Views.{completed, ending}
 use Rattle.target.specs.Luns.{lunReady, allReady, isReady, lunAt}
 use Rattle.target.specs.Events.{isReset}
 use Rattle.target.specs.declared.Lun.{Lun}
@@ -18,13 +18,16 @@ use Rattle.target.specs.declared.Event.{Event}
 use Rattle.target.specs.declared.Geometry.{Geometry}
 use Rattle.target.specs.declared.Findings.{Findings}
 use Rattle.target.specs.declared.Sequence.{Sequence}
+use Rattle.target.specs.declared.views.Given.{Given}
+use Rattle.target.specs.declared.views.Given.the-variants as given
 use Rattle.target.specs.declared.views.Ender.{Ender}
 use Rattle.target.specs.declared.views.Ender.the-variants as ender
 use Rattle.target.proofs.Both.{both4}
-use Rattle.effects.specs.Effects.{endedLuns, lunsAfter}
+use Rattle.rules.specs.Rules.{rowFits, beyond}
+use Rattle.effects.specs.Effects.{endedLuns, addressedLuns, lunsAfter}
 use Rattle.step.specs.Usable.{sequenceSound, markSound, marksSound}
 use Rattle.thm_kept.proofs.Choice.{by-pick, and-true, or-true}
-use Rattle.thm_kept.proofs.Views.{Ending, ends}
+use Rattle.thm_kept.proofs.Views.{row-named, Completes, completes, Ending, ends}
 
 module _ (g : Geometry) where
   -- a store at a LUN that exists leaves the record of one that does not
@@ -56,12 +59,25 @@ module _ (g : Geometry) where
   ended-sound luns (ender.By e) says h k =
       by-pick (λ (x : List Lun). marksSound g x ≡ true) (secondRow (e .second) .starts) _ _ (λ is. marks-set luns _ _ (h .starts is) k) (λ _. k)
 
+  -- a row that closes a copyback names a LUN that exists
+  addressed-sound : (luns : List Lun) (x : Given) → Completes g x → beyond g x ≡ false → marksSound g luns ≡ true
+      → marksSound g (addressedLuns g luns x) ≡ true
+  addressed-sound luns given.Nothing h near k = k
+  addressed-sound luns (given.Column c) h near k = k
+  addressed-sound luns (given.Row r) h near k =
+      let named = row-named g (r .first) (r .row) h (not-false (rowFits g (r .first) (r .row)) near) in
+      by-pick (λ (x : List Lun). marksSound g x ≡ true) (closesCopyback (r .first)) _ _ (λ _. marks-set luns _ _ named k) (λ _. k)
+  addressed-sound luns (given.Single v) h near k = k
+
   pub marks-kept : (luns : List Lun) (s : Sequence) (e : Event) (says : Findings) → sequenceSound g s ≡ true → marksSound g luns ≡ true
+      → (eqb (e .kind) 1 ≡ true → beyond g (completed s (e .value)) ≡ false)
       → (eqb (e .kind) 4 ≡ true → e .value < g .luns)
       → marksSound g (lunsAfter g luns s e says) ≡ true
   unfolding lunsAfter
-  marks-kept luns s e says h k named =
+  marks-kept luns s e says h k near named =
       by-pick (λ (x : List Lun). marksSound g x ≡ true) (isReset e) _ _ (λ _. all-ready-sound)
       (λ _. by-pick (λ (x : List Lun). marksSound g x ≡ true) (eqb (e .kind) 0) _ _ (λ _. ended-sound luns (ending s (e .value)) says (ends g s (e .value) h) k)
+      (λ _. by-pick (λ (x : List Lun). marksSound g x ≡ true) (eqb (e .kind) 1) _ _
+      (λ is. addressed-sound luns (completed s (e .value)) (completes g s (e .value) h) (near is) k)
       (λ _. by-pick (λ (x : List Lun). marksSound g x ≡ true) (eqb (e .kind) 4) _ _ (λ is. marks-set luns (e .value) _ (named is) k)
-      (λ _. k)))
+      (λ _. k))))

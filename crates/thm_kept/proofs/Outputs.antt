@@ -59,7 +59,7 @@ module _ (g : Geometry) where
     ended-sound : (found : Ender) → Ending g found → Sound (endedOutput g selected found)
     ended-sound ender.Nothing h = refl
     ended-sound (ender.By k) h =
-        let named : endedLun g selected k < g .luns = by-pick (λ (l : ℕ). l < g .luns) (k .rowed) (lunOf g (k .row)) selected (h .row) (λ _. one) in
+        let named : endedLun g selected k < g .luns = by-pick (λ (l : ℕ). l < g .luns) (takesRow (k .first)) (lunOf g (k .row)) selected (h .row) (λ _. one) in
         by-pick Sound (secondRow (k .second) .shows) _ _
         (λ _. and-true (ltb (endedLun g selected k) (g .luns)) (leb (k .column .0) (pageSize g)) (lt-ltb _ _ named) (le-leb _ _ (h .column)))
         (λ _. refl)

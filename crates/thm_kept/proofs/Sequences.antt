@@ -9,7 +9,7 @@ use borrow.Author.Tests.{leb-false, lt-ltb, le-leb, eqb-true, not-false}
 use Rattle.target.specs.Address.{columnFrom, rowFrom, rowExists}
 use Rattle.target.specs.Sizes.{pageSize}
 use Rattle.target.specs.Words.{hasFeature}
-use Rattle.target.specs.Commands.{looksOf, thenOf, takesColumn, takesRow, cyclesOf, waitsSecond, firstOf, secondRow}
+use Rattle.target.specs.Commands.{looksOf, thenOf, takesColumn, takesRow, cyclesOf, waitsSecond, isData, takesProgramData, firstOf, secondRow}
 use Rattle.target.specs.Views.{completed, taking, ending}
 use Rattle.target.specs.Place.{isOpen}
 use Rattle.target.specs.Events.{isReset}
@@ -37,7 +37,7 @@ use Rattle.rules.specs.Rules.{rowFits, beyond, dataEnded, unoffered}
 use Rattle.effects.specs.Effects.{started, opened, isMove, endedSequence, commanded, followed, columnGiven, addressed, filled, sequenceAfter}
 use Rattle.step.specs.Usable.{columnHeld, rowHeld, sequenceSound}
 use Rattle.thm_kept.proofs.Choice.{by-pick, and-true, one-of-two, two-of-three, below-at-most}
-use Rattle.thm_kept.proofs.Commands.{isData, data-row}
+use Rattle.thm_kept.proofs.Commands.{data-row}
 use Rattle.thm_kept.proofs.Views.{column-most, page-looked, takerSound, taker-sound, Ending, ends}
 
 module _ (g : Geometry) where
@@ -61,7 +61,9 @@ module _ (g : Geometry) where
   ended-sound : (found : Ender) → Ending g found → Sound (endedSequence found)
   ended-sound ender.Nothing h = refl
   ended-sound (ender.By k) h =
-      by-pick Sound (isMove (secondRow (k .second) .act)) _ _ (h .moves) (λ _. refl)
+      by-pick Sound (isMove (secondRow (k .second) .act)) _ _
+      (λ is. and-true (takesProgramData (k .first) && true) (rowExists g (k .row)) (and-true (takesProgramData (k .first)) true (h .moves is .0) refl) (h .moves is .1))
+      (λ _. refl)
 
   commanded-sound : (s : Sequence) (v : ℕ) → Sound s → Sound (commanded s v)
   commanded-sound s v h =
@@ -82,7 +84,9 @@ module _ (g : Geometry) where
     follows then.Second told =
         and-true (waitsSecond f && columnHeld g f c) (rowHeld g f r) (and-true (waitsSecond f) (columnHeld g f c) (rw (told)) h) k
     follows then.Data told =
-        and-true (leb (c .0) (pageSize g)) (rowExists g r) (le-leb _ _ (column-most g f c h)) (data-held f r (rw (told)) k)
+        and-true (takesProgramData f && leb (c .0) (pageSize g)) (rowExists g r)
+        (and-true (takesProgramData f) (leb (c .0) (pageSize g)) (rw (told)) (le-leb _ _ (column-most g f c h)))
+        (data-held f r (rw (told)) k)
     follows then.FeatureIn told = refl
     follows then.Status told = refl
     follows then.Id told = refl
@@ -124,10 +128,14 @@ module _ (g : Geometry) where
   moving-sound : (k : Moved) (v : ℕ) → Sound (Moving k) → beyond g (completed (Moving k) v) ≡ false → Sound (addressed (Moving k) v)
   moving-sound k v h near =
       let c = columnFrom (k .low) v in
-      let p = both (ltb (k .got) 2) (rowExists g (k .row)) h in
+      let opener = takesProgramData (k .first) in
+      let p = both3 opener (ltb (k .got) 2) (rowExists g (k .row)) h in
       by-pick Sound (eqb (k .got) 0) _ _
-      (λ _. p .1)
-      (λ no. and-true (leb (c .0) (pageSize g)) (rowExists g (k .row)) (below-at-most (c .0) (pageSize g) (in-page c (rw (one-of-two (k .got) (p .0) no) at near))) (p .1))
+      (λ _. and-true (opener && true) (rowExists g (k .row)) (and-true opener true (p .0) refl) (p .2))
+      (λ no. and-true (opener && leb (c .0) (pageSize g)) (rowExists g (k .row))
+      (and-true opener (leb (c .0) (pageSize g)) (p .0)
+      (below-at-most (c .0) (pageSize g) (in-page c (rw (one-of-two (k .got) (p .1) no) at near))))
+      (p .2))
 
   addressed-sound : (s : Sequence) (v : ℕ) → Sound s → beyond g (completed s v) ≡ false → Sound (addressed s v)
   addressed-sound Idle v h near = refl
@@ -151,9 +159,12 @@ module _ (g : Geometry) where
   filled-sound : (w : Words) (s : Sequence) (k : Taker) (v : ℕ) → Sound s → takerSound g k ≡ true → dataEnded g k ≡ false → unoffered w k v ≡ false → Sound (filled s k v)
   filled-sound w s taker.Nothing v h t more fine = h
   filled-sound w s (taker.Program k) v h t more fine =
-      and-true (leb (k .at .0 + 1) (pageSize g)) (rowExists g (k .row))
-      (le-leb (k .at .0 + 1) (pageSize g) (omega (arith, leb-false (pageSize g) (k .at .0) more)))
-      (both (leb (k .at .0) (pageSize g)) (rowExists g (k .row)) t .1)
+      let opener = takesProgramData (k .first) in
+      let p = both3 opener (leb (k .at .0) (pageSize g)) (rowExists g (k .row)) t in
+      and-true (opener && leb (k .at .0 + 1) (pageSize g)) (rowExists g (k .row))
+      (and-true opener (leb (k .at .0 + 1) (pageSize g)) (p .0)
+      (le-leb (k .at .0 + 1) (pageSize g) (omega (arith, leb-false (pageSize g) (k .at .0) more))))
+      (p .2)
   filled-sound w s (taker.Feature k) v h t more fine =
       let p = both (ltb (k .got) 4) (eqb (k .value) 0 || eqb (k .value) 0x40) t in
       by-pick Sound (eqb (k .got) 0) _ _ (λ _. feature-byte (eqb v 0) (eqb (k .got) 0) (eqb v 0x40) (hasFeature w 8) fine)

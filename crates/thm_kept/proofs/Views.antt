@@ -4,7 +4,7 @@
 --     taker-sound   what takes data is sound
 --     ends          a second command has a column within the page, and the row that it needs
 -- Assumes nothing.
-use mathlib.Core.Path.{_≡_, refl, sym, ap}
+use mathlib.Core.Path.{_≡_, refl}
 use mathlib.Core.Bool.{Bool, true, false, _||_, false≢true}
 use Prim.Native.Nat.{ℕ, _≤_, _<_}
 use native.Mathlib.Omega.{arith}
@@ -13,8 +13,8 @@ use borrow.Author.Tests.{eqb-true, ltb-true, leb-true}
 use Rattle.target.specs.Pick.{pick}
 use Rattle.target.specs.Address.{lunOf, rowExists}
 use Rattle.target.specs.Sizes.{pageSize}
-use Rattle.target.specs.Commands.{looksOf, endOf, takesColumn, takesRow, waitsSecond, secondOf, secondRow}
-use Rattle.target.specs.Views.{completed, taking, endedWith, ending}
+use Rattle.target.specs.Commands.{looksOf, takesColumn, takesRow, waitsSecond, takesProgramData, secondOf, secondRow}
+use Rattle.target.specs.Views.{completed, taking, endedWith, endsWith, ending}
 use Rattle.target.specs.declared.Column.{Column}
 use Rattle.target.specs.declared.Row.{Row}
 use Rattle.target.specs.declared.Geometry.{Geometry}
@@ -112,35 +112,36 @@ module _ (g : Geometry) where
 
   pub record Ends (k : Ended) : Type 0 where
     pub column : k .column .0 ≤ pageSize g
-    pub row : k .rowed ≡ true → lunOf g (k .row) < g .luns
+    pub row : takesRow (k .first) ≡ true → lunOf g (k .row) < g .luns
     pub starts : secondRow (k .second) .starts ≡ true → lunOf g (k .row) < g .luns
-    pub moves : isMove (secondRow (k .second) .act) ≡ true → rowExists g (k .row) ≡ true
+    pub moves : isMove (secondRow (k .second) .act) ≡ true → (takesProgramData (k .first) ≡ true) × (rowExists g (k .row) ≡ true)
 
   abbrev pub Ending : Ender → Type 0
   Ending ender.Nothing = Unit
   Ending (ender.By k) = Ends k
 
   -- the second command that a first one waits for
-  due-ends : (k : Wait) → sequenceSound g (Due k) ≡ true → (found : SecondFound) → secondOf (endOf (k .first)) ≡ found → Ending (endedWith found (k .column) (k .row) (takesRow (k .first)))
-  due-ends k h second.Nothing told = tt
-  due-ends k h (second.Found s) told =
+  due-ends : (k : Wait) (v : ℕ) → sequenceSound g (Due k) ≡ true → endsWith (k .first) v ≡ true → (found : SecondFound)
+      → secondOf v ≡ found → Ending (endedWith found (k .first) (k .column) (k .row))
+  due-ends k v h fits second.Nothing told = tt
+  due-ends k v h fits (second.Found s) told =
       let f = k .first in
       let p = both3 (waitsSecond f) (columnHeld g f (k .column)) (rowHeld g f (k .row)) h in
       let named : takesRow f ≡ true → lunOf g (k .row) < g .luns = λ is. row-named f (k .row) is (rw is at p .2) in
       record {
         column = column-most f (k .column) (p .1);
         row = named;
-        starts = λ is. named (starts-rowed f (p .0) s told is);
-        moves = λ is. absurd (opposite (isMove (secondRow s .act)) is (never-moves f (p .0) s told));
+        starts = λ is. named (starts-rowed f (p .0) v fits s told is);
+        moves = λ is. absurd (opposite (isMove (secondRow s .act)) is (never-moves f (p .0) v fits s told));
       }
 
   -- 10h and 85h inside a program
-  filling-ends : (k : Fill) → sequenceSound g (Filling k) ≡ true → (found : SecondFound) → Ending (endedWith found (k .at) (k .row) true)
+  filling-ends : (k : Fill) → sequenceSound g (Filling k) ≡ true → (found : SecondFound) → Ending (endedWith found (k .first) (k .at) (k .row))
   filling-ends k h second.Nothing = tt
   filling-ends k h (second.Found s) =
-      let p = both (leb (k .at .0) (pageSize g)) (rowExists g (k .row)) h in
-      let named = row-lun g (k .row) (p .1) in
-      record { column = leb-true _ _ (p .0); row = λ _. named; starts = λ _. named; moves = λ _. p .1 }
+      let p = both3 (takesProgramData (k .first)) (leb (k .at .0) (pageSize g)) (rowExists g (k .row)) h in
+      let named = row-lun g (k .row) (p .2) in
+      record { column = leb-true _ _ (p .1); row = λ _. named; starts = λ _. named; moves = λ _. (p .0, p .2) }
 
   pub ends : (s : Sequence) (v : ℕ) → sequenceSound g s ≡ true → Ending (ending s v)
   ends Idle v h = tt
@@ -148,7 +149,7 @@ module _ (g : Geometry) where
   ends (Rows k) v h = tt
   ends (Single f) v h = tt
   ends (Due k) v h =
-      by-pick Ending (eqb v (endOf (k .first))) _ _ (λ is. due-ends k h (secondOf v) (ap secondOf (sym (eqb-true v (endOf (k .first)) is)))) (λ _. tt)
+      by-pick Ending (endsWith (k .first) v) _ _ (λ is. due-ends k v h is (secondOf v) refl) (λ _. tt)
   ends (Filling k) v h = by-pick Ending (eqb v 0x10 || eqb v 0x85) _ _ (λ _. filling-ends k h (secondOf v)) (λ _. tt)
   ends (Moving k) v h = tt
   ends (Setting k) v h = tt

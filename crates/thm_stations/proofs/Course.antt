@@ -8,7 +8,7 @@ use Prim.Native.Nat.{ℕ}
 use lib.Dec.{eqb}
 use borrow.Author.Tests.{not-true}
 use Rattle.target.specs.Address.{lunOf}
-use Rattle.target.specs.Commands.{firstOf, waitsFor, cyclesOf}
+use Rattle.target.specs.Commands.{firstOf, waitsFor, cyclesOf, takesRow}
 use Rattle.target.specs.Views.{completed, taking, ending}
 use Rattle.target.specs.Place.{takesCommand}
 use Rattle.target.specs.declared.Decoder.{Decoder}
@@ -66,7 +66,7 @@ plainly v h =
 -- a second command with a row of the l-th LUN
 unfoldable pub EndedOf : Geometry → ℕ → Ender → Type 0
 EndedOf g l ender.Nothing = Unit
-EndedOf g l (ender.By k) = (k .rowed ≡ true) × (lunOf g (k .row) ≡ l)
+EndedOf g l (ender.By k) = (takesRow (k .first) ≡ true) × (lunOf g (k .row) ≡ l)
 
 -- an address that completes a row of the l-th LUN, or a column of which nothing is asked
 unfoldable pub GivenOf : Geometry → ℕ → Given → Type 0

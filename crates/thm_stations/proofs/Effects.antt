@@ -11,8 +11,8 @@ use lib.Dec.{eqb, leb}
 use borrow.Author.Tests.{leb-false, not-true}
 use Rattle.slices.proofs.Parts.{getD-alike}
 use Rattle.target.specs.Address.{lunOf, rowExists}
-use Rattle.target.specs.Commands.{clearsRegister, waitsFor, cyclesOf, firstOf, secondRow}
-use Rattle.target.specs.Luns.{lunAt, lunBegun}
+use Rattle.target.specs.Commands.{clearsRegister, closesCopyback, waitsFor, cyclesOf, firstOf, secondRow}
+use Rattle.target.specs.Luns.{lunAt, lunBegun, lunClosed}
 use Rattle.target.specs.Place.{isOpen}
 use Rattle.target.specs.Sizes.{pageSize}
 use Rattle.target.specs.Views.{completed, taking, ending}
@@ -38,7 +38,7 @@ use Rattle.target.specs.declared.views.Ender.{Ender}
 use Rattle.target.specs.declared.views.Ender.the-variants as ender
 use Rattle.target.proofs.Both.{both}
 use Rattle.rules.specs.Rules.{fits, outputEnded, pastEnd}
-use Rattle.effects.specs.Effects.{sequenceAfter, endedOutput, firstOutput, commandOutput, outputAfter, begun, endedLuns, lunsAfter, clearSet, clearAfter, highAfter, targetAfter, acted, endedWork, firstWork, commandWork, addressWork, dataWork, workOf}
+use Rattle.effects.specs.Effects.{sequenceAfter, endedOutput, firstOutput, commandOutput, outputAfter, begun, endCloses, endedLuns, addressedLuns, lunsAfter, clearSet, clearAfter, highAfter, targetAfter, acted, endedWork, firstWork, commandWork, addressWork, dataWork, workOf}
 use Rattle.step.specs.Usable.{sequenceSound}
 use Rattle.step.specs.Buffers.{pageFull, blockBad, proceeds, endedFindings, findings, statusOf, outputByte}
 use Rattle.step.specs.Step.{Buffers, replyOf, Reaches, EnderReaches}
@@ -115,23 +115,33 @@ module _ (g : Geometry) (l : ℕ) where
   -- The LUN records.
 
   module _ (xs ys : List Lun) (lun : lunAt xs l ≡ lunAt ys l) where
-    begun-changed : (m : ℕ) (fail : Bool) → m ≡ l
-        → Changed l xs ys (set xs m (lunBegun (lunAt xs m) fail)) (set ys m (lunBegun (lunAt ys m) fail))
-    begun-changed m fail q = rw q (become-by (λ (u : Lun). lunBegun u fail) lun)
+    begun-changed : (m : ℕ) (fail opens closes : Bool) → m ≡ l
+        → Changed l xs ys (set xs m (lunBegun (lunAt xs m) fail opens closes)) (set ys m (lunBegun (lunAt ys m) fail opens closes))
+    begun-changed m fail opens closes q = rw q (become-by (λ (u : Lun). lunBegun u fail opens closes) lun)
+
+    closed-changed : (m : ℕ) → m ≡ l → Changed l xs ys (set xs m (lunClosed (lunAt xs m))) (set ys m (lunClosed (lunAt ys m)))
+    closed-changed m q = rw q (become-by lunClosed lun)
+
+    addressed-changed : (x : Given) → GivenOf g l x → Changed l xs ys (addressedLuns g xs x) (addressedLuns g ys x)
+    unfolding GivenOf
+    addressed-changed given.Nothing w = as-were
+    addressed-changed (given.Column k) w = as-were
+    addressed-changed (given.Row k) w = changed-pick (closesCopyback (k .first)) (closed-changed (lunOf g (k .row)) w)
+    addressed-changed (given.Single k) w = as-were
 
     ended-changed : (x : Ender) (found : Findings) → EndedOf g l x
         → Changed l xs ys (endedLuns g xs x found) (endedLuns g ys x found)
     unfolding EndedOf
     ended-changed ender.Nothing found w = as-were
     ended-changed (ender.By k) found w =
-        changed-pick (secondRow (k .second) .starts) (begun-changed (lunOf g (k .row)) (not (found .proceeds)) (w .1))
+        changed-pick (secondRow (k .second) .starts) (begun-changed (lunOf g (k .row)) (not (found .proceeds)) (secondRow (k .second) .opens) (endCloses k) (w .1))
 
     pub luns-changed : (s : Sequence) (o : Output) (c : Cycle) (found : Findings) → CycleOf g l c s o
         → Changed l xs ys (lunsAfter g xs s (eventOf c) found) (lunsAfter g ys s (eventOf c) found)
     unfolding CycleOf lunsAfter
     luns-changed s o (command v) found keeps =
         rw (plainly v (keeps .0) .no-reset) (ended-changed (ending s v) found (keeps .1))
-    luns-changed s o (address v) found keeps = as-were
+    luns-changed s o (address v) found keeps = addressed-changed (completed s v) keeps
     luns-changed s o (dataIn v) found keeps = as-were
     luns-changed s o dataOut found keeps = as-were
 

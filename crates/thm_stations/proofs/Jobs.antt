@@ -2,7 +2,7 @@
 -- close a job as parameters and ask for their attributes: a job of another command is one more line of `job-alike`.
 -- Assumes nothing.
 use mathlib.Core.Path.{_≡_, refl, sym, _∙_}
-use mathlib.Core.Bool.{Bool, true, false, _&&_, _||_, not}
+use mathlib.Core.Bool.{Bool, true, false, _&&_, _||_, not, false≢true}
 use mathlib.Core.List.{List, [], _∷_, _++_}
 use Prim.Native.Nat.{ℕ, zero, suc}
 use lib.ListN.{replicate}
@@ -10,17 +10,18 @@ use lib.Dec.{eqb}
 use borrow.Author.Tests.{not-true}
 use Rattle.target.specs.Pick.{pick}
 use Rattle.target.specs.Address.{columnFrom, lunOf}
-use Rattle.target.specs.Commands.{rowOf, cyclesOf, endOf, thenOf, needsReady, waitsFor, takesColumn, takesRow, firstOf, secondRow, secondOf, classOf}
-use Rattle.target.specs.Views.{asksSelected, endedWith, endedBy, ending}
+use Rattle.target.specs.Commands.{rowOf, cyclesOf, thenOf, needsReady, waitsFor, takesColumn, takesRow, firstOf, secondRow, secondOf, classOf}
+use Rattle.target.specs.Views.{asksSelected, endedWith, endedBy, endsWith, ending}
 use Rattle.target.specs.Place.{takesCommand}
 use Rattle.target.specs.declared.Column.{Column}
 use Rattle.target.specs.declared.Row.{Row}
 use Rattle.target.specs.declared.Decoder.{Decoder}
 use Rattle.target.specs.declared.Fill.{Fill}
 use Rattle.target.specs.declared.Geometry.{Geometry}
+use Rattle.target.specs.declared.RowCycles.{RowCycles}
 use Rattle.target.specs.declared.Wait.{Wait}
 use Rattle.target.specs.declared.First.{First}
-use Rattle.target.specs.declared.First.the-variants.{Read, ChangeColumnEnhanced, Erase, StatusEnhanced, Program}
+use Rattle.target.specs.declared.First.the-variants.{Read, ChangeColumnEnhanced, Erase, StatusEnhanced, Program, CopybackProgram}
 use Rattle.target.specs.declared.Sequence.{Sequence}
 use Rattle.target.specs.declared.Sequence.the-variants.{Idle, Columns, Rows, Due, Filling}
 use Rattle.target.specs.declared.Output.{Output}
@@ -32,10 +33,11 @@ use Rattle.target.specs.declared.commands.Then.the-variants as then
 use Rattle.target.specs.declared.views.Ender.{Ender}
 use Rattle.target.specs.declared.views.Ender.the-variants as ender
 use Rattle.target.proofs.Both.{both}
+use Rattle.rules.specs.Rules.{fits}
 use Rattle.effects.specs.Effects.{started, isMove, endedSequence, followed, sequenceAfter, endedOutput, shown, advanced, outputAfter}
 use Rattle.thm_kept.proofs.Choice.{by-pick}
 use Rattle.jobs.specs.Cycles.{Cycle, command, dataOut, ColumnBytes, RowBytes, two, three}
-use Rattle.thm_stations.specs.Jobs.{eventOf, wholeRow, Piece, byte, move, pieces, Job, read, readOut, program, erase, status, cycles, lunNamed}
+use Rattle.thm_stations.specs.Jobs.{eventOf, wholeRow, Piece, byte, move, pieces, Job, read, readOut, program, erase, status, copybackRead, copybackProgram, cycles, lunNamed}
 use Rattle.thm_stations.proofs.Ties.{Quiet}
 use Rattle.thm_stations.proofs.Course.{decoder, isNobody, aimed, plain, plainly, EndedOf, GivenOf, TakerOf, OutputOf, CycleOf, Course, Spared, spared-address, spared-in, spared-out, spared-command, at-start, Alike}
 
@@ -72,15 +74,15 @@ asks-nobody : (f : First) → takesRow f ≡ true → asksSelected f ≡ false
 asks-nobody f row = rw row (none-of (needsReady f))
 
 -- what closes a sequence leaves none open
-over-with : (x : SecondFound) (c : Column) (r : Row) (rowed : Bool) → isMoved x ≡ false
-    → endedSequence (endedWith x c r rowed) ≡ Idle
-over-with second.Nothing c r rowed h = refl
-over-with (second.Found s) c r rowed h = rw h
+over-with : (x : SecondFound) (f : First) (c : Column) (r : Row) → isMoved x ≡ false
+    → endedSequence (endedWith x f c r) ≡ Idle
+over-with second.Nothing f c r h = refl
+over-with (second.Found s) f c r h = rw h
 
-over : (b : Bool) (v : ℕ) (c : Column) (r : Row) (rowed : Bool) → isMoved (secondOf v) ≡ false
-    → endedSequence (pick b (endedBy v c r rowed) ender.Nothing) ≡ Idle
-over true v c r rowed h = over-with (secondOf v) c r rowed h
-over false v c r rowed h = refl
+over : (b : Bool) (v : ℕ) (f : First) (c : Column) (r : Row) → isMoved (secondOf v) ≡ false
+    → endedSequence (pick b (endedBy v f c r) ender.Nothing) ≡ Idle
+over true v f c r h = over-with (secondOf v) f c r h
+over false v f c r h = refl
 
 -- a program's data and moves, and the command that closes it
 abbrev closedBy : ℕ → List Piece → List Cycle
@@ -88,17 +90,17 @@ closedBy last ps = pieces ps ++ (command last ∷ [])
 
 module _ (g : Geometry) where
   -- a second command has the sequence's row
-  ended-with : (x : SecondFound) (c : Column) (r : Row) (rowed : Bool) → rowed ≡ true
-      → EndedOf g (lunOf g r) (endedWith x c r rowed)
+  ended-with : (x : SecondFound) (f : First) (c : Column) (r : Row) → takesRow f ≡ true
+      → EndedOf g (lunOf g r) (endedWith x f c r)
   unfolding EndedOf
-  ended-with second.Nothing c r rowed h = tt
-  ended-with (second.Found s) c r rowed h = (h, refl)
+  ended-with second.Nothing f c r h = tt
+  ended-with (second.Found s) f c r h = (h, refl)
 
-  ended-pick : (b : Bool) (v : ℕ) (c : Column) (r : Row) (rowed : Bool) → rowed ≡ true
-      → EndedOf g (lunOf g r) (pick b (endedBy v c r rowed) ender.Nothing)
+  ended-pick : (b : Bool) (v : ℕ) (f : First) (c : Column) (r : Row) → takesRow f ≡ true
+      → EndedOf g (lunOf g r) (pick b (endedBy v f c r) ender.Nothing)
   unfolding EndedOf
-  ended-pick true v c r rowed h = ended-with (secondOf v) c r rowed h
-  ended-pick false v c r rowed h = tt
+  ended-pick true v f c r h = ended-with (secondOf v) f c r h
+  ended-pick false v f c r h = tt
 
   -- and puts out that row's LUN
   ended-output : (l : ℕ) (x : Ender) → EndedOf g l x → OutputOf l (endedOutput g l x)
@@ -106,7 +108,7 @@ module _ (g : Geometry) where
   ended-output l ender.Nothing w = tt
   ended-output l (ender.By k) w =
       by-pick (OutputOf l) (secondRow (k .second) .shows)
-      (output.Register (pick (k .rowed) (lunOf g (k .row)) l) (k .column)) output.Nothing (λ _. rw (w .0) (w .1)) (λ _. tt)
+      (output.Register (pick (takesRow (k .first)) (lunOf g (k .row)) l) (k .column)) output.Nothing (λ _. rw (w .0) (w .1)) (λ _. tt)
 
   -- data out of what is the LUN's
   advanced-of : (l : ℕ) (o : Output) → OutputOf l o → OutputOf l (advanced o)
@@ -146,44 +148,61 @@ module _ (g : Geometry) where
   unfolding sequenceAfter outputAfter
   due-course w last n o row k =
       let l = lunOf g (w .row) in
-      let test = eqb last (endOf (w .first)) in
-      let ends : EndedOf g l (ending (Due w) last) =
-      ended-pick test last (w .column) (w .row) (takesRow (w .first)) row in
+      let test = endsWith (w .first) last in
+      let ends : EndedOf g l (ending (Due w) last) = ended-pick test last (w .first) (w .column) (w .row) row in
       let calm = plainly last (k .is-plain) .no-reset in
       closed-course l last n (Due w) o (k .is-plain) ends
-      (rw calm (over test last (w .column) (w .row) (takesRow (w .first)) (k .no-move)))
+      (rw calm (over test last (w .first) (w .column) (w .row) (k .no-move)))
       (rw calm (ended-output l (ending (Due w) last) ends))
 
   -- the last command of a program
-  last-course : (k : Fill) (last : ℕ) (o : Output) → Closes last
+  last-course : (k : Fill) (last : ℕ) (o : Output) → takesRow (k .first) ≡ true → Closes last
       → Course g (lunOf g (k .row)) (command last ∷ []) (Filling k) o
   unfolding sequenceAfter outputAfter
-  last-course k last o h =
+  last-course k last o row h =
       let l = lunOf g (k .row) in
       let test = eqb last 0x10 || eqb last 0x85 in
-      let ends : EndedOf g l (ending (Filling k) last) = ended-pick test last (k .at) (k .row) true refl in
+      let ends : EndedOf g l (ending (Filling k) last) = ended-pick test last (k .first) (k .at) (k .row) row in
       let calm = plainly last (h .is-plain) .no-reset in
       closed-course l last 0 (Filling k) o (h .is-plain) ends
-      (rw calm (over test last (k .at) (k .row) true (h .no-move)))
+      (rw calm (over test last (k .first) (k .at) (k .row) (h .no-move)))
       (rw calm (ended-output l (ending (Filling k) last) ends))
 
   -- data and moves before it
-  pieces-course : (k : Fill) (last : ℕ) → Closes last → (ps : List Piece) (o : Output)
+  pieces-course : (k : Fill) (last : ℕ) → takesRow (k .first) ≡ true → Closes last → (ps : List Piece) (o : Output)
       → Course g (lunOf g (k .row)) (closedBy last ps) (Filling k) o
   unfolding Course CycleOf EndedOf GivenOf TakerOf sequenceAfter outputAfter secondOf secondRow firstOf rowOf
-  pieces-course k last h [] o = last-course k last o h
-  pieces-course k last h (byte v ∷ ps) o = (refl, λ _. pieces-course _ last h ps o)
-  pieces-course k last h (move b ∷ ps) o =
-      ((refl, (refl, refl)), λ _. (tt, λ _. (refl, λ _. pieces-course _ last h ps output.Nothing)))
+  pieces-course k last row h [] o = last-course k last o row h
+  pieces-course k last row h (byte v ∷ ps) o = (refl, λ _. pieces-course _ last row h ps o)
+  pieces-course k last row h (move b ∷ ps) o =
+      ((refl, (row, refl)), λ _. (tt, λ _. (refl, λ _. pieces-course _ last row h ps output.Nothing)))
 
-  -- no move opens a sequence
+  -- none of them fits where a row is due
+  pieces-misfit : (l last : ℕ) → Closes last → (ps : List Piece) (k : RowCycles) (o : Output)
+      → Course g l (closedBy last ps) (Rows k) o
+  unfolding Course CycleOf EndedOf TakerOf fits firstOf rowOf
+  pieces-misfit l last h [] k o =
+      ((h .is-plain, tt), λ fit. absurd (false≢true (rw (plainly last (h .is-plain) .no-reset) at fit)))
+  pieces-misfit l last h (byte v ∷ ps) k o = (tt, λ fit. absurd (false≢true fit))
+  pieces-misfit l last h (move b ∷ ps) k o = ((refl, tt), λ fit. absurd (false≢true fit))
+
+  -- a move with no sequence open is a copyback's first command with its column; no row follows
+  move-course : (l last : ℕ) → Closes last → (b : ColumnBytes) (ps : List Piece)
+      → Course g l (command 0x85 ∷ two b (closedBy last ps)) Idle output.Nothing
+  unfolding Course CycleOf EndedOf GivenOf sequenceAfter outputAfter firstOf rowOf
+  move-course l last h b ps =
+      ((refl, tt), λ _. (tt, λ _. (refl, λ _. pieces-misfit l last h ps _ output.Nothing)))
+
+  spared-column : (l : ℕ) (c : ColumnBytes) (cs : List Cycle) → Spared g l cs → Spared g l (two c cs)
+  spared-column l c cs h = spared-address g l _ (spared-address g l cs h (c .high)) (c .low)
+
+  -- after a refusal no row completes, and the last command leaves nothing open
   pieces-spared : (l last : ℕ) → Closes last → (ps : List Piece) → Spared g l (closedBy last ps)
-  unfolding classOf secondRow firstOf rowOf
+  unfolding Spared
   pieces-spared l last h [] = second-spared l last 0 h
   pieces-spared l last h (byte v ∷ ps) = spared-in g l (closedBy last ps) (pieces-spared l last h ps) v
   pieces-spared l last h (move b ∷ ps) =
-      spared-command g l _ (spared-address g l _ (spared-address g l _ (pieces-spared l last h ps) (b .high)) (b .low)) 0x85
-      refl refl
+      (move-course l last h b ps, spared-column l b (closedBy last ps) (pieces-spared l last h ps))
 
   -- a course behind the addresses of a first command
   abbrev Behind : First → Column → Row → List Cycle → Output → Type 0
@@ -206,9 +225,6 @@ module _ (g : Geometry) where
   spared-row : (l : ℕ) (r : RowBytes) (cs : List Cycle) → Spared g l cs → Spared g l (three r cs)
   spared-row l r cs h =
       spared-address g l _ (spared-address g l _ (spared-address g l cs h (r .high)) (r .mid)) (r .low)
-
-  spared-column : (l : ℕ) (c : ColumnBytes) (cs : List Cycle) → Spared g l cs → Spared g l (two c cs)
-  spared-column l c cs h = spared-address g l _ (spared-address g l cs h (c .high)) (c .low)
 
   -- the sequence that a first command opens, and no output
   opened-course : (l v : ℕ) (f : First) (cs : List Cycle) (o : Output) → Opens v f
@@ -260,9 +276,10 @@ module _ (g : Geometry) where
   second-follows f c r last n then row k =
       rw then (due-course (record { first = f; column = c; row = r }) last n output.Nothing row k)
 
-  data-follows : (f : First) (c : Column) (r : Row) (last : ℕ) (ps : List Piece) → thenOf f ≡ then.Data → Closes last
+  data-follows : (f : First) (c : Column) (r : Row) (last : ℕ) (ps : List Piece) → thenOf f ≡ then.Data → takesRow f ≡ true
+      → Closes last
       → Behind f c r (closedBy last ps) output.Nothing
-  data-follows f c r last ps then k = rw then (pieces-course _ last k ps output.Nothing)
+  data-follows f c r last ps then row k = rw then (pieces-course _ last row k ps output.Nothing)
 
   status-of : (l : ℕ) → OutputOf l (output.Status l)
   unfolding OutputOf
@@ -296,7 +313,7 @@ module _ (g : Geometry) where
       → Alike g (lunOf g (wholeRow r)) (command v ∷ two c (three r (closedBy last ps))) d e
   five-data v last f k column then z c r ps p q =
       five v f k r (closedBy last ps) p q (pieces-spared (lunOf g (wholeRow r)) last z ps) column c
-      (data-follows f (columnFrom (c .low) (c .high)) (wholeRow r) last ps then z)
+      (data-follows f (columnFrom (c .low) (c .high)) (wholeRow r) last ps then (k .rowed) z)
 
   -- a status: a row, and data out
   pub three-status : (v : ℕ) (f : First) → Opens v f → takesColumn f ≡ false → thenOf f ≡ then.Status
@@ -317,3 +334,7 @@ job-alike g (program c r ps) p q =
     five-data g _ _ Program (opens refl refl refl refl) refl refl (closes refl refl refl) c r ps p q
 job-alike g (erase r) p q = three-second g _ _ Erase (opens refl refl refl refl) refl refl (closes refl refl refl) r p q
 job-alike g (status r n) p q = three-status g _ StatusEnhanced (opens refl refl refl refl) refl refl r n p q
+job-alike g (copybackRead c r) p q =
+    five-second g _ _ Read (opens refl refl refl refl) refl refl (closes refl refl refl) c r 0 p q
+job-alike g (copybackProgram c r ps) p q =
+    five-data g _ _ CopybackProgram (opens refl refl refl refl) refl refl (closes refl refl refl) c r ps p q

@@ -18,3 +18,4 @@ pub mod Isolation
 pub mod LostPreset
 pub mod Reached
 pub mod Written
+pub mod Premises

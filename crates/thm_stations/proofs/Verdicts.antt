@@ -8,7 +8,7 @@ use lib.Dec.{eqb}
 use Rattle.target.specs.Address.{lunOf}
 use Rattle.target.specs.Commands.{firstOf, waitsFor, cyclesOf}
 use Rattle.target.specs.Events.{badRecord}
-use Rattle.target.specs.Luns.{lunAt, works}
+use Rattle.target.specs.Luns.{lunAt, works, copybackAt}
 use Rattle.target.specs.Views.{completed}
 use Rattle.target.specs.declared.Lun.{Lun}
 use Rattle.target.specs.declared.Decoder.{Decoder}
@@ -22,7 +22,7 @@ use Rattle.target.specs.declared.commands.Waits.the-variants as waits
 use Rattle.target.specs.declared.views.Given.{Given}
 use Rattle.target.specs.declared.views.Given.the-variants as given
 use Rattle.target.proofs.Both.{both}
-use Rattle.rules.specs.Rules.{unknown, beforeReset, fits, misplaced, outOfRange, namesWorking, outputWorks, lunWorks, workFor, othersWorkFor, othersBusy, lineLow, pastEnd, notOffered, notWorking, lineHeld, rules, verdict}
+use Rattle.rules.specs.Rules.{unknown, beforeReset, fits, misplaced, outOfRange, namesWorking, outputWorks, lunWorks, lacksCopyback, noCopyback, workFor, othersWorkFor, othersBusy, lineLow, pastEnd, notOffered, notWorking, lineHeld, rules, verdict}
 use Rattle.jobs.specs.Cycles.{Cycle, command, address, dataIn, dataOut}
 use Rattle.thm_stations.specs.Jobs.{eventOf, finishOf}
 use Rattle.thm_stations.proofs.Halves.{Fixed, made}
@@ -48,6 +48,9 @@ module _ (k : Fixed) (l a b : ℕ) (xs ys : List Lun) (lun : lunAt xs l ≡ lunA
   works-alike : (m : ℕ) → m ≡ l → works xs m ≡ works ys m
   works-alike m q = rw q (ap (λ (u : Lun). u .working) lun)
 
+  copyback-alike : (m : ℕ) → m ≡ l → copybackAt xs m ≡ copybackAt ys m
+  copyback-alike m q = rw q (ap (λ (u : Lun). u .copyback) lun)
+
   -- what an address completes asks for no LUN but the l-th
   names-alike : (x : Given) → GivenOf (k .geometry) l x
       → namesWorking (k .geometry) xs a x ≡ namesWorking (k .geometry) ys b x
@@ -56,6 +59,15 @@ module _ (k : Fixed) (l a b : ℕ) (xs ys : List Lun) (lun : lunAt xs l ≡ lunA
   names-alike (given.Column c) w = rw w
   names-alike (given.Row r) w = rw (works-alike (lunOf (k .geometry) (r .row)) w)
   names-alike (given.Single s) w = absurd w
+
+  -- nor looks at another LUN's copyback
+  lacks-alike : (x : Given) → GivenOf (k .geometry) l x
+      → lacksCopyback (k .geometry) xs x ≡ lacksCopyback (k .geometry) ys x
+  unfolding GivenOf
+  lacks-alike given.Nothing w = refl
+  lacks-alike (given.Column c) w = refl
+  lacks-alike (given.Row r) w = rw (copyback-alike (lunOf (k .geometry) (r .row)) w)
+  lacks-alike (given.Single s) w = refl
 
   output-alike : (o : Output) → OutputOf l o → outputWorks xs o ≡ outputWorks ys o
   unfolding OutputOf
@@ -69,18 +81,19 @@ module _ (k : Fixed) (l a b : ℕ) (xs ys : List Lun) (lun : lunAt xs l ≡ lunA
 
   command-alike : (s : Sequence) (v : ℕ) (o p : Output) → plain v ≡ true
       → verdict (made k a xs (decoder s o)) (eventOf (command v)) ≡ verdict (made k b ys (decoder s p)) (eventOf (command v))
-  unfolding verdict rules badRecord misplaced fits outOfRange notOffered lunWorks pastEnd notWorking lineHeld
+  unfolding verdict rules badRecord misplaced fits outOfRange notOffered lunWorks noCopyback pastEnd notWorking lineHeld
   command-alike s v o p h = rw (calm xs a v h, calm ys b v h)
 
   pub verdict-alike : (s : Sequence) (c : Cycle) {cs : List Cycle} {o p : Output} → Standing (c ∷ cs) o p
       → CycleOf (k .geometry) l c s o
       → verdict (made k a xs (decoder s o)) (eventOf c) ≡ verdict (made k b ys (decoder s p)) (eventOf c)
-  unfolding CycleOf verdict rules badRecord beforeReset unknown misplaced fits othersBusy outOfRange notOffered lunWorks lineLow pastEnd notWorking lineHeld
+  unfolding CycleOf verdict rules badRecord beforeReset unknown misplaced fits othersBusy outOfRange notOffered lunWorks noCopyback lineLow pastEnd notWorking lineHeld
   verdict-alike s (command v) {o = o} {p = p} standing keeps = command-alike s v o p (keeps .0)
-  verdict-alike s (address v) standing keeps = rw (names-alike (completed s v) keeps)
+  verdict-alike s (address v) standing keeps =
+      rw (names-alike (completed s v) keeps, lacks-alike (completed s v) keeps)
   verdict-alike s (dataIn v) standing keeps = refl
   verdict-alike s dataOut {o = o} equal keeps = rw (output-alike o keeps)
 
   pub verdict-finish : (d e : Decoder) → verdict (made k a xs d) (finishOf l) ≡ verdict (made k b ys e) (finishOf l)
-  unfolding verdict rules badRecord beforeReset unknown misplaced othersBusy outOfRange notOffered lunWorks lineLow pastEnd notWorking lineHeld
+  unfolding verdict rules badRecord beforeReset unknown misplaced othersBusy outOfRange notOffered lunWorks noCopyback lineLow pastEnd notWorking lineHeld
   verdict-finish d e = rw (works-alike l refl)

@@ -1,4 +1,4 @@
--- Whole jobs (document 01, "Whole jobs of demand 3"), and the LUN that a job's row names. Their bus cycles are those of crate
+-- Whole jobs (document 01, "Whole jobs of demand 3"; document 02, A1, both halves of a copyback), and the LUN that a job's row names. Their bus cycles are those of crate
 -- `jobs`; what demand 3 adds is the 85h moves of a program, which are no part of the jobs written and read (document 02, A5).
 -- Bytes are free; page, block and column may be out of range.
 use Prim.Native.Nat.{ℕ}
@@ -7,7 +7,7 @@ use Rattle.target.specs.Address.{rowFrom, lunOf}
 use Rattle.target.specs.declared.Event.{Event}
 use Rattle.target.specs.declared.Geometry.{Geometry}
 use Rattle.target.specs.declared.Row.{Row}
-use Rattle.jobs.specs.Cycles.{Cycle, command, address, dataIn, dataOut, ColumnBytes, RowBytes, two, readCycles, readOutCycles, programCycles, eraseCycles, statusCycles}
+use Rattle.jobs.specs.Cycles.{Cycle, command, address, dataIn, dataOut, ColumnBytes, RowBytes, two, readBy, readCycles, readOutCycles, programBy, programCycles, eraseCycles, statusCycles}
 
 -- a cycle as an event
 abbrev pub eventOf : Cycle → Event
@@ -31,6 +31,8 @@ pub data Job : Type 0 where
   program : ColumnBytes → RowBytes → List Piece → Job
   erase : RowBytes → Job
   status : RowBytes → ℕ → Job
+  copybackRead : ColumnBytes → RowBytes → Job
+  copybackProgram : ColumnBytes → RowBytes → List Piece → Job
 
 -- a data byte is one cycle, a move 85h and two addresses
 abbrev pub pieces : List Piece → List Cycle
@@ -44,6 +46,8 @@ cycles (readOut c r n) = readOutCycles c r n
 cycles (program c r ps) = programCycles c r (pieces ps)
 cycles (erase r) = eraseCycles r
 cycles (status r n) = statusCycles r n
+cycles (copybackRead c r) = readBy 0x35 c r
+cycles (copybackProgram c r ps) = programBy 0x85 c r (pieces ps)
 
 abbrev pub wholeRow : RowBytes → Row
 wholeRow r = rowFrom (r .low) (r .mid) (r .high)
@@ -54,6 +58,8 @@ rowNamed (readOut c r n) = wholeRow r
 rowNamed (program c r ps) = wholeRow r
 rowNamed (erase r) = wholeRow r
 rowNamed (status r n) = wholeRow r
+rowNamed (copybackRead c r) = wholeRow r
+rowNamed (copybackProgram c r ps) = wholeRow r
 
 -- the row's LUN field names the job's LUN
 abbrev pub lunNamed : Geometry → Job → ℕ

@@ -11,11 +11,12 @@ use Rattle.slices.specs.Cells.{part, splice, andBytes}
 use Rattle.target.specs.Pick.{pick}
 use Rattle.target.specs.Numbers.{numberOf}
 use Rattle.target.specs.Events.{isReset}
-use Rattle.target.specs.Words.{hasFeature}
+use Rattle.target.specs.Words.{hasFeature, hasOption}
 use Rattle.target.specs.Sizes.{pageSize}
-use Rattle.target.specs.Commands.{byteOf, cyclesOf}
-use Rattle.target.specs.Address.{columnFrom, rowFrom, lunOf, lunExists}
-use Rattle.target.specs.Luns.{lunAt, works, failed, allReady}
+use Rattle.target.specs.Place.{isOpen}
+use Rattle.target.specs.Commands.{byteOf, cyclesOf, needsCopyback, secondOf, isSecondFound}
+use Rattle.target.specs.Address.{columnFrom, rowFrom, lunOf, lunExists, rowExists}
+use Rattle.target.specs.Luns.{lunAt, lunClosed, works, failed, copybackAt, allReady}
 use Rattle.target.specs.declared.Column.{Column}
 use Rattle.target.specs.declared.Row.{Row}
 use Rattle.target.specs.declared.Lun.{Lun}
@@ -60,24 +61,29 @@ due f c r = Due (record { first = f; column = c; row = r })
 abbrev pub lastRow : First → Column → ℕ → ℕ → Sequence
 lastRow f c low mid = Rows (record { first = f; column = c; got = 2; low = low; mid = mid })
 
--- a program takes data, next at this place
-abbrev pub filling : Row → Column → Sequence
-filling r c = Filling (record { row = r; at = c })
+-- a program that this command opened takes data, next at this place
+abbrev pub filling : First → Row → Column → Sequence
+filling f r c = Filling (record { first = f; row = r; at = c })
+
+-- 85h inside it: `got` of its two column cycles have come
+abbrev pub moving : First → Row → ℕ → ℕ → Sequence
+moving f r got low = Moving (record { first = f; row = r; got = got; low = low })
 
 -- EFh with `got` of its four bytes, the first of which was `value`
 abbrev pub setting : ℕ → ℕ → Sequence
 setting got value = Setting (record { got = got; value = value })
 
--- a LUN's record: it works, with this FAIL; it is ready, with this FAIL
-abbrev pub working : Bool → Lun
-working fail = record { working = true; fail = fail }
+-- a LUN's record: it works, it is ready; with this FAIL, and with a copyback open or not
+abbrev pub working : Bool → Bool → Lun
+working fail copyback = record { working = true; fail = fail; copyback = copyback }
 
-abbrev pub waiting : Bool → Lun
-waiting fail = record { working = false; fail = fail }
+abbrev pub waiting : Bool → Bool → Lun
+waiting fail copyback = record { working = false; fail = fail; copyback = copyback }
 
--- 30h, 10h and D0h
+-- 30h, 35h, 10h and D0h
 abbrev pub beginsWork : Event → Bool
-beginsWork e = eqb (e .kind) 0 && (eqb (e .value) 0x30 || eqb (e .value) 0x10 || eqb (e .value) 0xd0)
+beginsWork e =
+    eqb (e .kind) 0 && (eqb (e .value) 0x30 || eqb (e .value) 0x35 || eqb (e .value) 0x10 || eqb (e .value) 0xd0)
 
 -- Every paragraph is about a record, the parameter bytes and the lent buffers.
 module _ (t : Target) (params : List ℕ) (b : Buffers) (flags : List ℕ) where
@@ -117,6 +123,10 @@ module _ (t : Target) (params : List ℕ) (b : Buffers) (flags : List ℕ) where
   abbrev pub pageAt : Row → ℕ
   pageAt r = pageIndex (t .geometry) r * size
 
+  -- the LUN's copyback after a 10h: open where it was, unless the program is a copyback's
+  abbrev pub stillOpen : First → Row → Bool
+  stillOpen f r = copybackAt (t .luns) (lun r) && not (needsCopyback f)
+
   -- an event that changes no lent byte
   abbrev pub LeavesBuffers : Event → Type 0
   LeavesBuffers e = after e .buffers ≡ b
@@ -127,8 +137,8 @@ module _ (t : Target) (params : List ℕ) (b : Buffers) (flags : List ℕ) where
 
   -- **Place.** The rest of the paragraph is the definitions of crates/target/specs, Place.antt and Views.antt.
   pub record Place : Type 0 where
-    -- "A first command is accepted with no sequence open"
-    pub none-open : (f : First) → Taken (command (byteOf f)) → At Idle
+    -- "A first command is accepted with no sequence open"; 85h is a second command too, a program's move
+    pub none-open : (f : First) → isSecondFound (secondOf (byteOf f)) ≡ false → Taken (command (byteOf f)) → At Idle
     -- "it ends output"; only 70h, which has no address cycle, puts out at once
     pub ends-output : (f : First) → eqb (cyclesOf f) 0 ≡ false → Taken (command (byteOf f))
         → after (command (byteOf f)) .target .decoder .output ≡ output.Nothing
@@ -142,7 +152,7 @@ module _ (t : Target) (params : List ℕ) (b : Buffers) (flags : List ℕ) where
         → LeavesRegisters (command 0x30) (splice (b .registers) (registerAt (lun r)) size (part (b .array) (pageAt r) size))
     -- "and starts work"; "FAIL .. 0 for a read", on a bad block too
     pub starts : (c : Column) (r : Row) → At (due first.Read c r) → Taken (command 0x30)
-        → after (command 0x30) .target .luns ≡ set (t .luns) (lun r) (working false)
+        → after (command 0x30) .target .luns ≡ set (t .luns) (lun r) (working false false)
     -- "output will begin at the column"
     pub puts-out : (c : Column) (r : Row) → At (due first.Read c r) → Taken (command 0x30)
         → after (command 0x30) .target .decoder ≡ record { sequence = Idle; output = output.Register (lun r) c }
@@ -191,47 +201,48 @@ module _ (t : Target) (params : List ℕ) (b : Buffers) (flags : List ℕ) where
     pub clears-later : t .clear ≡ true → Taken (command 0x80) → LeavesBuffers (command 0x80)
     -- "Data goes in from the column upward"
     pub begins : (c : Column) (low mid v : ℕ) → At (lastRow first.Program c low mid) → Taken (address v)
-        → after (address v) .target .decoder .sequence ≡ filling (rowFrom low mid v) c
-    pub goes-in : (r : Row) (c : Column) (v : ℕ) → At (filling r c) → Taken (dataIn v)
+        → after (address v) .target .decoder .sequence ≡ filling first.Program (rowFrom low mid v) c
+    pub goes-in : (f : First) (r : Row) (c : Column) (v : ℕ) → At (filling f r c) → Taken (dataIn v)
         → LeavesRegisters (dataIn v)
         (splice (b .registers) (registerAt (lun r)) size (set (part (b .registers) (registerAt (lun r)) size) (c .0) v))
-    pub upward : (r : Row) (c : Column) (v : ℕ) → At (filling r c) → Taken (dataIn v)
-        → after (dataIn v) .target .decoder .sequence ≡ filling r (record { 0 = c .0 + 1 })
+    pub upward : (f : First) (r : Row) (c : Column) (v : ℕ) → At (filling f r c) → Taken (dataIn v)
+        → after (dataIn v) .target .decoder .sequence ≡ filling f r (record { 0 = c .0 + 1 })
     -- "85h and two cycles move it"
-    pub moves : (r : Row) (c : Column) → At (filling r c) → Taken (command 0x85)
-        → (after (command 0x85) .target .decoder .sequence ≡ Moving (record { row = r; got = 0; low = 0 }))
-        × LeavesBuffers (command 0x85)
-    pub moves-low : (r : Row) (v : ℕ) → At (Moving (record { row = r; got = 0; low = 0 })) → Taken (address v)
-        → (after (address v) .target .decoder .sequence ≡ Moving (record { row = r; got = 1; low = v }))
-        × LeavesBuffers (address v)
-    pub moves-high : (r : Row) (low v : ℕ) → At (Moving (record { row = r; got = 1; low = low })) → Taken (address v)
-        → (after (address v) .target .decoder .sequence ≡ filling r (columnFrom low v)) × LeavesBuffers (address v)
+    pub moves : (f : First) (r : Row) (c : Column) → At (filling f r c) → Taken (command 0x85)
+        → (after (command 0x85) .target .decoder .sequence ≡ moving f r 0 0) × LeavesBuffers (command 0x85)
+    pub moves-low : (f : First) (r : Row) (v : ℕ) → At (moving f r 0 0) → Taken (address v)
+        → (after (address v) .target .decoder .sequence ≡ moving f r 1 v) × LeavesBuffers (address v)
+    pub moves-high : (f : First) (r : Row) (low v : ℕ) → At (moving f r 1 low) → Taken (address v)
+        → (after (address v) .target .decoder .sequence ≡ filling f r (columnFrom low v)) × LeavesBuffers (address v)
+    -- with a sequence open 85h is accepted where a program takes data alone
+    pub only-moves : Taken (command 0x85) → isOpen (t .decoder .sequence) ≡ true → (k : Fill) × At (Filling k)
     -- 10h is accepted where a program takes data alone
     pub only-here : Taken (command 0x10) → (k : Fill) × At (Filling k)
     -- "10h: each array byte becomes old AND register, the count rises by one"
-    pub programs : (r : Row) (c : Column) → At (filling r c) → Taken (command 0x10)
+    pub programs : (f : First) (r : Row) (c : Column) → At (filling f r c) → Taken (command 0x10)
         → blockBad (t .geometry) r flags ≡ false → pageFull (t .geometry) r (b .counts) ≡ false
         → after (command 0x10) .buffers ≡ record {
           array = splice (b .array) (pageAt r) size (andBytes (part (b .array) (pageAt r) size) (part (b .registers) (registerAt (lun r)) size));
           registers = b .registers;
           counts = set (b .counts) (pageIndex (t .geometry) r) (getD (b .counts) (pageIndex (t .geometry) r) 0 + 1);
         }
-    pub each-byte : (r : Row) (c : Column) → At (filling r c) → Taken (command 0x10)
+    pub each-byte : (f : First) (r : Row) (c : Column) → At (filling f r c) → Taken (command 0x10)
         → blockBad (t .geometry) r flags ≡ false → pageFull (t .geometry) r (b .counts) ≡ false
         → (i : ℕ) → i < size
         → getD (after (command 0x10) .buffers .array) (pageAt r + i) 0
         ≡ bitAnd (getD (b .array) (pageAt r + i) 0) (getD (b .registers) (registerAt (lun r) + i) 0)
     -- "work starts"
-    pub starts : (r : Row) (c : Column) → At (filling r c) → Taken (command 0x10)
+    pub starts : (f : First) (r : Row) (c : Column) → At (filling f r c) → Taken (command 0x10)
         → blockBad (t .geometry) r flags ≡ false → pageFull (t .geometry) r (b .counts) ≡ false
-        → after (command 0x10) .target .luns ≡ set (t .luns) (lun r) (working false)
+        → after (command 0x10) .target .luns ≡ set (t .luns) (lun r) (working false (stillOpen f r))
     -- "If the block's flag is not 0 or the count is at or above programs a page, array and count stay, FAIL is 1, and
     -- work still starts"
-    pub stays : (r : Row) (c : Column) → At (filling r c) → Taken (command 0x10)
+    pub stays : (f : First) (r : Row) (c : Column) → At (filling f r c) → Taken (command 0x10)
         → (blockBad (t .geometry) r flags || pageFull (t .geometry) r (b .counts)) ≡ true
-        → LeavesBuffers (command 0x10) × (after (command 0x10) .target .luns ≡ set (t .luns) (lun r) (working true))
+        → LeavesBuffers (command 0x10)
+        × (after (command 0x10) .target .luns ≡ set (t .luns) (lun r) (working true (stillOpen f r)))
     -- "No data at all before 10h is allowed": wherever data may come 10h is accepted, with the line high
-    pub no-data : (r : Row) (c : Column) → At (filling r c) → Live → t .high ≡ true
+    pub no-data : (f : First) (r : Row) (c : Column) → At (filling f r c) → Live → t .high ≡ true
         → after (command 0x10) .reply ≡ reply.Accepted
 
   -- **Erase.**
@@ -248,19 +259,84 @@ module _ (t : Target) (params : List ℕ) (b : Buffers) (flags : List ℕ) where
           counts = splice (b .counts) (blockIndex (t .geometry) r * t .geometry .pages) (t .geometry .pages)
               (replicate (t .geometry .pages) 0);
         })
-        × (after (command 0xd0) .target .luns ≡ set (t .luns) (lun r) (working false))
+        × (after (command 0xd0) .target .luns ≡ set (t .luns) (lun r) (working false false))
     -- "A factory bad block stays and gives FAIL"
     pub stays : (c : Column) (r : Row) → At (due first.Erase c r) → Taken (command 0xd0)
         → blockBad (t .geometry) r flags ≡ true
-        → LeavesBuffers (command 0xd0) × (after (command 0xd0) .target .luns ≡ set (t .luns) (lun r) (working true))
+        → LeavesBuffers (command 0xd0)
+        × (after (command 0xd0) .target .luns ≡ set (t .luns) (lun r) (working true false))
 
-  -- **Work.** Read, Program and Erase say that 30h, 10h and D0h begin it, and which FAIL each sets afresh.
+  -- **Copyback** (document 02, A1).
+  pub record Copyback : Type 0 where
+    -- 35h is accepted after 00h and its five addresses alone
+    pub only-here : Taken (command 0x35) → (k : Wait) × ((At (Due k)) × (k .first ≡ first.Read))
+    -- "35h reads as 30h does"
+    pub copies : (c : Column) (r : Row) → At (due first.Read c r) → Taken (command 0x35)
+        → LeavesRegisters (command 0x35)
+        (splice (b .registers) (registerAt (lun r)) size (part (b .array) (pageAt r) size))
+    pub puts-out : (c : Column) (r : Row) → At (due first.Read c r) → Taken (command 0x35)
+        → after (command 0x35) .target .decoder ≡ record { sequence = Idle; output = output.Register (lun r) c }
+    -- "and opens a copyback on that LUN"
+    pub opens : (c : Column) (r : Row) → At (due first.Read c r) → Taken (command 0x35)
+        → after (command 0x35) .target .luns ≡ set (t .luns) (lun r) (working false true)
+    -- "85h as a first command (no sequence open)", which clears nothing, whatever program-clear
+    pub begins : At Idle → Taken (command 0x85)
+        → (after (command 0x85) .target .decoder ≡ record {
+          sequence = Columns (record { first = first.CopybackProgram; got = 0; low = 0 });
+          output = output.Nothing;
+        })
+        × LeavesBuffers (command 0x85)
+    -- "programs the register without clearing it": its row clears nothing and leaves the copyback open; data may come
+    pub takes-data : (c : Column) (low mid v : ℕ) → At (lastRow first.CopybackProgram c low mid) → Taken (address v)
+        → (after (address v) .target .decoder .sequence ≡ filling first.CopybackProgram (rowFrom low mid v) c)
+        × (after (address v) .target .luns ≡ t .luns) × LeavesBuffers (address v)
+    -- "its row is checked as 80h's, 5 included"
+    pub no-row : (c : Column) (low mid v : ℕ) → At (lastRow first.CopybackProgram c low mid) → Live
+        → rowExists (t .geometry) (rowFrom low mid v) ≡ false
+        → RefusedWith 4 (address v)
+    pub busy : (c : Column) (low mid v : ℕ) → At (lastRow first.CopybackProgram c low mid) → Live
+        → rowExists (t .geometry) (rowFrom low mid v) ≡ true → works (t .luns) (lun (rowFrom low mid v)) ≡ true
+        → RefusedWith 5 (address v)
+    -- "New refusal 14, checked after 5 at the last row cycle: no copyback open there"
+    pub none-open : (c : Column) (low mid v : ℕ) → At (lastRow first.CopybackProgram c low mid) → Live
+        → rowExists (t .geometry) (rowFrom low mid v) ≡ true → works (t .luns) (lun (rowFrom low mid v)) ≡ false
+        → copybackAt (t .luns) (lun (rowFrom low mid v)) ≡ false
+        → RefusedWith 14 (address v)
+    pub one-open : (c : Column) (low mid v : ℕ) → At (lastRow first.CopybackProgram c low mid) → Live
+        → rowExists (t .geometry) (rowFrom low mid v) ≡ true → works (t .luns) (lun (rowFrom low mid v)) ≡ false
+        → copybackAt (t .luns) (lun (rowFrom low mid v)) ≡ true
+        → after (address v) .reply ≡ reply.Accepted
+    -- "85h moves are allowed as in a program", and in a program they need no optional bit
+    pub moves : (f : First) (r : Row) (c : Column) → At (filling f r c) → Live
+        → after (command 0x85) .reply ≡ reply.Accepted
+    -- "Optional bit 4; without it 35h, and 85h as a first command, are refusal 1"
+    pub not-offered : Live → hasOption (t .words) 4 ≡ false → RefusedWith 1 (command 0x35)
+    pub lone : At Idle → Live → hasOption (t .words) 4 ≡ false → RefusedWith 1 (command 0x85)
+    -- "Any later .. 80h row .. accepted for that LUN .. closes it": that LUN's alone (30h, D0h and FFh stand with Read,
+    -- Erase and Reset)
+    pub program-closes : (c : Column) (low mid v : ℕ) → At (lastRow first.Program c low mid) → Taken (address v)
+        → after (address v) .target .luns
+        ≡ set (t .luns) (lun (rowFrom low mid v)) (lunClosed (lunAt (t .luns) (lun (rowFrom low mid v))))
+    -- "a copyback 10h", with FAIL too; the 10h of a program that 80h opened leaves the mark as it is
+    pub closes : (r : Row) → stillOpen first.CopybackProgram r ≡ false
+    pub keeps : (r : Row) → stillOpen first.Program r ≡ copybackAt (t .luns) (lun r)
+    -- a refusal leaves register and mark as they are
+    pub refused : (e : Event) (q : Refusal) → after e .reply ≡ reply.Refused q
+        → LeavesBuffers e × (after e .target .luns ≡ t .luns)
+
+  -- **Work.** Read, Program, Erase and Copyback say that 30h, 10h, D0h and 35h begin it, and which FAIL each sets
+  -- afresh.
   pub record Work : Type 0 where
     -- "A LUN works .. to its finish event", which leaves FAIL as it is
     pub finishes : (l : ℕ) → Taken (finish l)
-        → after (finish l) .target .luns ≡ set (t .luns) l (waiting (failed (t .luns) l))
+        → after (finish l) .target .luns ≡ set (t .luns) l (waiting (failed (t .luns) l) (copybackAt (t .luns) l))
     -- and no other event but FFh begins or ends it, or sets FAIL
     pub else-as-it-is : (e : Event) → Taken e → beginsWork e ≡ false → eqb (e .kind) 4 ≡ false → isReset e ≡ false
+        → (l : ℕ) → (works (after e .target .luns) l ≡ works (t .luns) l)
+        × (failed (after e .target .luns) l ≡ failed (t .luns) l)
+    -- of the others only the last row cycle of 80h may change the records
+    pub only-a-row : (e : Event) → Taken e → beginsWork e ≡ false → eqb (e .kind) 4 ≡ false → isReset e ≡ false
+        → ((c : Column) (low mid : ℕ) → At (lastRow first.Program c low mid) → eqb (e .kind) 1 ≡ false)
         → after e .target .luns ≡ t .luns
 
   -- **Status.**

@@ -8,8 +8,8 @@ use lib.ListN.{length}
 use lib.Dec.{eqb, ltb, leb, lit<}
 use Rattle.target.specs.Pick.{pick}
 use Rattle.target.specs.Address.{rowExists}
-use Rattle.target.specs.Commands.{takesColumn, takesRow, waitsSecond}
-use Rattle.target.specs.Luns.{works, failed}
+use Rattle.target.specs.Commands.{takesColumn, takesRow, waitsSecond, takesProgramData}
+use Rattle.target.specs.Luns.{works, failed, copybackAt}
 use Rattle.target.specs.Sizes.{pageSize, inLimits}
 use Rattle.target.specs.declared.Column.{Column}
 use Rattle.target.specs.declared.Row.{Row}
@@ -98,9 +98,14 @@ mixed : {A B : Type 0} (p : A → Bool) (q : B → Bool) {a : A} {b : B} (x : A)
 mixed p q {a} {b} x y z u e d h k =
     and-true (p a) (q b) (subst (λ i. p i ≡ true) e (both (p x) (q y) h .0)) (subst (λ i. q i ≡ true) d (both (p z) (q u) k .1))
 
-mark-mix : (there a b c d : Bool) → (there || not a && not c) ≡ true → (there || not d && not b) ≡ true → (there || not a && not b) ≡ true
-mark-mix true a b c d h k = refl
-mark-mix false a b c d h k = mix (not a) (not c) (not d) (not b) h k
+-- each of three marks of a LUN past the count is off, by a run of its own
+mark-mix : (there a b c p q r s t u : Bool) → (there || not a && not p && not q) ≡ true → (there || not r && not b && not s) ≡ true
+    → (there || not t && not u && not c) ≡ true → (there || not a && not b && not c) ≡ true
+mark-mix true a b c p q r s t u h k l = refl
+mark-mix false a b c p q r s t u h k l =
+    and-true (not a && not b) (not c)
+    (and-true (not a) (not b) (both3 (not a) (not p) (not q) h .0) (both3 (not r) (not b) (not s) k .1))
+    (both3 (not t) (not u) (not c) l .2)
 
 sequence-sound : (g : Geometry) (s : Sequence) → SequenceGiven g s → sequenceSound g s ≡ true
 sequence-sound g Idle w = refl
@@ -129,13 +134,21 @@ sequence-sound g (Due k) w =
 sequence-sound g (Filling k) w =
     let i = w .0 .other in
     let j = w .1 .other in
-    mixed (λ (x : Column). leb (x .0) (pageSize g)) (λ (x : Row). rowExists g x) (j .at) (j .row) (i .at) (i .row) (w .1 .same) (w .0 .same)
-    (sequence-held (w .1 .stands)) (sequence-held (w .0 .stands))
+    let p = both3 (takesProgramData (i .first)) (leb (i .at .0) (pageSize g)) (rowExists g (i .row)) (sequence-held (w .0 .stands)) in
+    let q = both3 (takesProgramData (j .first)) (leb (j .at .0) (pageSize g)) (rowExists g (j .row)) (sequence-held (w .1 .stands)) in
+    let placed = and-true (takesProgramData (j .first)) (leb (j .at .0) (pageSize g)) (q .0) (q .1) in
+    and-true (takesProgramData (k .first) && leb (k .at .0) (pageSize g)) (rowExists g (k .row))
+    (subst (λ (x : First × Column). (takesProgramData (x .0) && leb (x .1 .0) (pageSize g)) ≡ true) (w .1 .same) placed)
+    (subst (λ (x : First × Row). rowExists g (x .1) ≡ true) (w .0 .same) (p .2))
 sequence-sound g (Moving k) w =
     let i = w .0 .other in
     let j = w .1 .other in
-    mixed (λ (x : ℕ). ltb x 2) (λ (x : Row). rowExists g x) (j .got) (j .row) (i .got) (i .row) (w .1 .same) (w .0 .same)
-    (sequence-held (w .1 .stands)) (sequence-held (w .0 .stands))
+    let p = both3 (takesProgramData (i .first)) (ltb (i .got) 2) (rowExists g (i .row)) (sequence-held (w .0 .stands)) in
+    let q = both3 (takesProgramData (j .first)) (ltb (j .got) 2) (rowExists g (j .row)) (sequence-held (w .1 .stands)) in
+    let counted = and-true (takesProgramData (j .first)) (ltb (j .got) 2) (q .0) (q .1) in
+    and-true (takesProgramData (k .first) && ltb (k .got) 2) (rowExists g (k .row))
+    (subst (λ (x : First × ℕ). (takesProgramData (x .0) && ltb (x .1) 2) ≡ true) (w .1 .same) counted)
+    (subst (λ (x : First × Row). rowExists g (x .1) ≡ true) (w .0 .same) (p .2))
 sequence-sound g (Setting k) w =
     let i = w .0 .other in
     let j = w .1 .other in
@@ -152,11 +165,18 @@ output-sound g (output.Ids at) w = output-held w
 output-sound g (output.Signature at) w = output-held w
 output-sound g (output.Feature at) w = output-held w
 
-mark-sound : (g : Geometry) (luns : List Lun) (l : ℕ) → l < 4 → Reached g (λ u. works (u .luns) l ≡ works luns l) → Reached g (λ u. failed (u .luns) l ≡ failed luns l) → markSound g luns l ≡ true
-mark-sound g luns l h w f =
-    mark-mix (ltb l (g .luns)) (works luns l) (failed luns l) (failed (run w .target .luns) l) (works (run f .target .luns) l)
-    (subst (λ (x : Bool). (ltb l (g .luns) || not x && not (failed (run w .target .luns) l)) ≡ true) (w .holds) (run-mark w l h))
-    (subst (λ (x : Bool). (ltb l (g .luns) || not (works (run f .target .luns) l) && not x) ≡ true) (f .holds) (run-mark f l h))
+mark-sound : (g : Geometry) (luns : List Lun) (l : ℕ) → l < 4 → Reached g (λ u. works (u .luns) l ≡ works luns l) → Reached g (λ u. failed (u .luns) l ≡ failed luns l)
+    → Reached g (λ u. copybackAt (u .luns) l ≡ copybackAt luns l) → markSound g luns l ≡ true
+mark-sound g luns l h w f c =
+    let there = ltb l (g .luns) in
+    let ws = run w .target .luns in
+    let fs = run f .target .luns in
+    let cs = run c .target .luns in
+    mark-mix there (works luns l) (failed luns l) (copybackAt luns l)
+    (failed ws l) (copybackAt ws l) (works fs l) (copybackAt fs l) (works cs l) (failed cs l)
+    (subst (λ (x : Bool). (there || not x && not (failed ws l) && not (copybackAt ws l)) ≡ true) (w .holds) (run-mark w l h))
+    (subst (λ (x : Bool). (there || not (works fs l) && not x && not (copybackAt fs l)) ≡ true) (f .holds) (run-mark f l h))
+    (subst (λ (x : Bool). (there || not (works cs l) && not (failed cs l) && not x) ≡ true) (c .holds) (run-mark c l h))
 
 -- the optional word may be any
 words-sound : (g : Geometry) (w : Words) → Reached g (λ u. u .words .features ≡ w .features) → wordsSound g w ≡ true
@@ -167,7 +187,7 @@ words-sound g w given =
 pub by-itself : ByItself
 by-itself t on w =
     let g = t .geometry in
-    let mark : (l : ℕ) → l < 4 → markSound g (t .luns) l ≡ true = λ l h. mark-sound g (t .luns) l h (w .working l h) (w .fail l h) in
+    let mark : (l : ℕ) → l < 4 → markSound g (t .luns) l ≡ true = λ l h. mark-sound g (t .luns) l h (w .working l h) (w .fail l h) (w .copyback l h) in
     all-sound t on
     (subst (λ (x : Geometry). inLimits x ≡ true) (run-sized (w .geometry)) (run-sound (w .geometry) .limited))
     (words-sound g (t .words) (w .features))

@@ -9,17 +9,18 @@ use lib.Dec.{eqb}
 use borrow.Author.Tests.{leb-true, not-true}
 use Rattle.target.specs.Pick.{orElse}
 use Rattle.target.specs.Address.{lunOf}
+use Rattle.target.specs.Words.{bitOf}
 use Rattle.target.specs.Commands.{classOf, offered, rowOf, byteOf, needsReady, waitsFor, firstOf, secondOf, secondRow}
 use Rattle.target.specs.Views.{completed, taking}
 use Rattle.target.specs.Luns.{lunReady, allReady, lunAt, works}
 use Rattle.target.specs.Events.{badRecord}
-use Rattle.target.specs.Place.{takesAddress, takesData, hasOutput}
+use Rattle.target.specs.Place.{isOpen, takesAddress, takesData, hasOutput}
 use Rattle.target.specs.declared.Geometry.{Geometry}
 use Rattle.target.specs.declared.Lun.{Lun}
 use Rattle.target.specs.declared.Target.{Target}
 use Rattle.target.specs.declared.Findings.{Findings}
 use Rattle.target.specs.declared.First.{First}
-use Rattle.target.specs.declared.First.the-variants.{ChangeColumnEnhanced}
+use Rattle.target.specs.declared.First.the-variants.{Read, ChangeColumnEnhanced}
 use Rattle.target.specs.declared.Wait.{Wait}
 use Rattle.target.specs.declared.Fill.{Fill}
 use Rattle.target.specs.declared.Sequence.{Sequence}
@@ -34,10 +35,10 @@ use Rattle.target.specs.declared.commands.FirstFound.the-variants as first
 use Rattle.target.specs.declared.views.Given.{Given}
 use Rattle.target.specs.declared.views.Given.the-variants as given
 use Rattle.target.proofs.Firsts.{named}
-use Rattle.rules.specs.Rules.{unknown, beforeReset, fits, misplaced, beyond, outOfRange, namesWorking, outputWorks, lunWorks, workFor, othersWorkFor, othersBusy, isGuarded, lineLow, dataEnded, outputEnded, pastEnd, unoffered, notOffered}
+use Rattle.rules.specs.Rules.{unknown, beforeReset, fits, misplaced, beyond, outOfRange, namesWorking, outputWorks, lunWorks, lacksCopyback, noCopyback, workFor, othersWorkFor, othersBusy, isGuarded, lineLow, dataEnded, outputEnded, pastEnd, unoffered, notOffered}
 use Rattle.rules.specs.Rules as rules
 use Rattle.rules.proofs.ByKind.{event, command-verdict, address-verdict, in-verdict, out-verdict}
-use Rattle.effects.specs.Effects.{started, addressed, filled, sequenceAfter, firstOutput, addressedOutput, advanced, outputAfter, lunsAfter, rowSelects, selectedAfter, clearSet, clearAfter, highAfter, targetAfter}
+use Rattle.effects.specs.Effects.{started, addressed, filled, sequenceAfter, firstOutput, addressedOutput, advanced, outputAfter, addressedLuns, lunsAfter, rowSelects, selectedAfter, clearSet, clearAfter, highAfter, targetAfter}
 use Rattle.step.specs.Buffers.{findings}
 use Rattle.thm_tight.proofs.Commands.{every, fresh}
 use Rattle.thm_tight.proofs.Part.{Part, Fine, flagsOf}
@@ -53,9 +54,9 @@ full g flag = record {
   flag = flag;
 }
 
--- after FFh, with a LUN selected, a sequence and an output
-abbrev pub stand : Geometry → ℕ → Sequence → Output → Target
-stand g selected s o = record {
+-- after FFh, with these LUN records, a LUN selected, a sequence and an output
+abbrev pub standing : Geometry → List Lun → ℕ → Sequence → Output → Target
+standing g luns selected s o = record {
   powered = true;
   geometry = g;
   words = every;
@@ -64,9 +65,13 @@ stand g selected s o = record {
   clear = false;
   seen = true;
   selected = selected;
-  luns = allReady;
+  luns = luns;
   decoder = record { sequence = s; output = o };
 }
+
+-- with every LUN as FFh leaves it
+abbrev pub stand : Geometry → ℕ → Sequence → Output → Target
+stand g selected s o = standing g allReady selected s o
 
 pub and-no : (b : Bool) → (b && false) ≡ false
 and-no true = refl
@@ -84,116 +89,137 @@ ready-at (suc (suc (suc (suc l)))) = refl
 pub works-not : (l : ℕ) → works allReady l ≡ false
 works-not l = ap (λ (x : Lun). x .working) (ready-at l)
 
-asked-not : (b : Bool) (l : ℕ) → (b && works allReady l) ≡ false
-asked-not b l = rw (works-not l) (and-no b)
+-- no LUN works
+abbrev pub Calm : List Lun → Type 0
+Calm luns = (l : ℕ) → works luns l ≡ false
 
-names-not : (g : Geometry) (selected : ℕ) (k : Given) → namesWorking g allReady selected k ≡ false
-names-not g selected given.Nothing = refl
-names-not g selected (given.Column k) = asked-not (k .asks) selected
-names-not g selected (given.Row k) = asked-not (needsReady (k .first)) (lunOf g (k .row))
-names-not g selected (given.Single k) = refl
+-- what an address completes asks for no copyback, and closes none
+pub record Unasked (g : Geometry) (luns : List Lun) (k : Given) : Type 0 where
+  pub lacks : lacksCopyback g luns k ≡ false
+  pub closes : addressedLuns g luns k ≡ luns
 
-work-not : (w : Waits) → workFor allReady 0 w ≡ false
-work-not waits.Nobody = refl
-work-not waits.Others = refl
-work-not waits.All = refl
+module _ (luns : List Lun) (calm : Calm luns) where
+  asked-not : (b : Bool) (l : ℕ) → (b && works luns l) ≡ false
+  asked-not b l = rw (calm l) (and-no b)
 
-others-not : (found : FirstFound) → othersWorkFor allReady 0 found ≡ false
-others-not first.Nothing = refl
-others-not (first.Found f) = work-not (waitsFor f)
+  names-not : (g : Geometry) (selected : ℕ) (k : Given) → namesWorking g luns selected k ≡ false
+  names-not g selected given.Nothing = refl
+  names-not g selected (given.Column k) = asked-not (k .asks) selected
+  names-not g selected (given.Row k) = asked-not (needsReady (k .first)) (lunOf g (k .row))
+  names-not g selected (given.Single k) = refl
 
--- A first command, after FFh.
+  work-not : (selected : ℕ) (w : Waits) → workFor luns selected w ≡ false
+  work-not selected waits.Nobody = refl
+  work-not selected waits.Others =
+      rw (
+        asked-not (not (eqb selected 0)) 0,
+        asked-not (not (eqb selected 1)) 1,
+        asked-not (not (eqb selected 2)) 2,
+        asked-not (not (eqb selected 3)) 3,
+      )
+  work-not selected waits.All = rw (calm 0, calm 1, calm 2, calm 3)
 
-module _ (g : Geometry) (f : First) where
-  abbrev opening : Target
-  opening = stand g 0 Idle output.Nothing
+  others-not : (selected : ℕ) (found : FirstFound) → othersWorkFor luns selected found ≡ false
+  others-not selected first.Nothing = refl
+  others-not selected (first.Found f) = work-not selected (waitsFor f)
 
-  is-known : unknown every (event 0 (byteOf f)) ≡ false
-  unfolding unknown
-  is-known = let p = fresh f in rw (p .0, p .1)
+  -- A first command, with no sequence open.
 
-  is-fit : misplaced (opening .decoder) (event 0 (byteOf f)) ≡ false
-  unfolding misplaced fits
-  is-fit = let p = fresh f in rw (not-true (eqb (byteOf f) 0xff) (p .3), p .2)
+  module _ (g : Geometry) (selected : ℕ) (o : Output) (f : First) where
+    abbrev opening : Target
+    opening = standing g luns selected Idle o
 
-  is-free : othersBusy allReady 0 (event 0 (byteOf f)) ≡ false
-  unfolding othersBusy
-  is-free = others-not (firstOf (byteOf f))
+    is-known : unknown every Idle (event 0 (byteOf f)) ≡ false
+    unfolding unknown
+    is-known = let p = fresh f in rw (p .0, p .1)
 
-  is-seen : beforeReset true (event 0 (byteOf f)) ≡ false
-  unfolding beforeReset
-  is-seen = and-no (not (eqb (byteOf f) 0xff))
+    is-fit : misplaced (opening .decoder) (event 0 (byteOf f)) ≡ false
+    unfolding misplaced fits
+    is-fit = let p = fresh f in rw (not-true (eqb (byteOf f) 0xff) (p .3), p .2)
 
-  is-high : lineLow true (event 0 (byteOf f)) ≡ false
-  unfolding lineLow
-  is-high = and-no (isGuarded (secondOf (byteOf f)))
+    is-free : othersBusy luns selected (event 0 (byteOf f)) ≡ false
+    unfolding othersBusy
+    is-free = others-not selected (firstOf (byteOf f))
 
-  opens : rules.verdict opening (event 0 (byteOf f)) ≡ Accepted
-  unfolding orElse
-  opens = command-verdict opening (byteOf f) ∙ rw (is-seen, is-known, is-fit, is-free, is-high)
+    is-seen : beforeReset true (event 0 (byteOf f)) ≡ false
+    unfolding beforeReset
+    is-seen = and-no (not (eqb (byteOf f) 0xff))
 
-  opened-by : (found : Findings) → targetAfter opening (event 0 (byteOf f)) found ≡ stand g 0 (started f) (firstOutput 0 (first.Found f))
-  unfolding targetAfter highAfter clearAfter selectedAfter lunsAfter sequenceAfter outputAfter
-  opened-by found = let p = fresh f in rw (not-true (eqb (byteOf f) 0xff) (p .3), named f)
+    is-high : lineLow true (event 0 (byteOf f)) ≡ false
+    unfolding lineLow
+    is-high = and-no (isGuarded (secondOf (byteOf f)))
+
+    opens : rules.verdict opening (event 0 (byteOf f)) ≡ Accepted
+    unfolding orElse
+    opens = command-verdict opening (byteOf f) ∙ rw (is-seen, is-known, is-fit, is-free, is-high)
+
+    opened-by : (found : Findings) → targetAfter opening (event 0 (byteOf f)) found ≡ standing g luns selected (started f) (firstOutput selected (first.Found f))
+    unfolding targetAfter highAfter clearAfter selectedAfter lunsAfter sequenceAfter outputAfter
+    opened-by found = let p = fresh f in rw (not-true (eqb (byteOf f) 0xff) (p .3), named f)
 
 -- the second commands that the ways go by
 pub data Second : Sequence → ℕ → Type 0 where
   showing : {k : Wait} → k .first ≡ ChangeColumnEnhanced → Second (Due k) 0xe0
+  copying : {k : Wait} → k .first ≡ Read → Second (Due k) 0x35
   moving : {k : Fill} → Second (Filling k) 0x85
   programming : {k : Fill} → Second (Filling k) 0x10
 
 second-small : {s : Sequence} {v : ℕ} → Second s v → v ≤ 255
 second-small (showing e) = omega arith
+second-small (copying e) = omega arith
 second-small moving = omega arith
 second-small programming = omega arith
 
--- each is no first command, so that no LUN is waited for
-second-known : {s : Sequence} {v : ℕ} → Second s v → (unknown every (event 0 v) ≡ false) × ((selected : ℕ) → othersBusy allReady selected (event 0 v) ≡ false)
-unfolding unknown othersBusy classOf offered rowOf firstOf secondRow
-second-known (showing e) = (refl, λ _. refl)
-second-known moving = (refl, λ _. refl)
-second-known programming = (refl, λ _. refl)
+-- for each no LUN is waited for
+second-known : {s : Sequence} {v : ℕ} (luns : List Lun) → Second s v → (unknown every s (event 0 v) ≡ false) × ((selected : ℕ) → othersBusy luns selected (event 0 v) ≡ false)
+unfolding unknown othersBusy classOf offered rowOf firstOf secondOf secondRow bitOf
+second-known luns (showing e) = (refl, λ _. refl)
+second-known luns (copying e) = (refl, λ _. refl)
+second-known luns moving = (refl, λ _. refl)
+second-known luns programming = (refl, λ _. refl)
 
 second-fits : {s : Sequence} {v : ℕ} (o : Output) → Second s v → misplaced (record { sequence = s; output = o }) (event 0 v) ≡ false
 unfolding misplaced fits rowOf secondOf secondRow
 second-fits o (showing e) = rw (e)
+second-fits o (copying e) = rw (e)
 second-fits o moving = refl
 second-fits o programming = refl
 
-second-accepted : (g : Geometry) (selected : ℕ) (o : Output) {s : Sequence} {v : ℕ} → Second s v → rules.verdict (stand g selected s o) (event 0 v) ≡ Accepted
+second-accepted : (g : Geometry) (luns : List Lun) (selected : ℕ) (o : Output) {s : Sequence} {v : ℕ} → Second s v → rules.verdict (standing g luns selected s o) (event 0 v) ≡ Accepted
 unfolding orElse beforeReset lineLow
-second-accepted g selected o {s} {v} which =
-    let p = second-known which in
-    command-verdict (stand g selected s o) v
+second-accepted g luns selected o {s} {v} which =
+    let p = second-known luns which in
+    command-verdict (standing g luns selected s o) v
     ∙ rw (and-no (not (eqb v 0xff)), p .0, second-fits o which, p .1 selected, and-no (isGuarded (secondOf v)))
 
 reset-accepted : (t : Target) → rules.verdict t (event 0 0xff) ≡ Accepted
 unfolding orElse beforeReset unknown classOf offered misplaced fits othersBusy lineLow rowOf firstOf secondOf secondRow
-reset-accepted t = command-verdict t 0xff
+reset-accepted t = command-verdict t 0xff ∙ rw (and-no (isOpen (t .decoder .sequence)))
 
 -- the rules that each of the other cycles can meet
-module _ (g : Geometry) (selected : ℕ) (s : Sequence) (o : Output) where
-  address-accepted : (v : ℕ) → takesAddress s ≡ true → beyond g (completed s v) ≡ false → rules.verdict (stand g selected s o) (event 1 v) ≡ Accepted
-  unfolding orElse beforeReset misplaced fits outOfRange lunWorks
-  address-accepted v h near = address-verdict (stand g selected s o) v ∙ rw (h, near, names-not g selected (completed s v))
+module _ (g : Geometry) (luns : List Lun) (calm : Calm luns) (selected : ℕ) (s : Sequence) (o : Output) where
+  address-accepted : (v : ℕ) → takesAddress s ≡ true → beyond g (completed s v) ≡ false → Unasked g luns (completed s v) → rules.verdict (standing g luns selected s o) (event 1 v) ≡ Accepted
+  unfolding orElse beforeReset misplaced fits outOfRange lunWorks noCopyback
+  address-accepted v h near free =
+      address-verdict (standing g luns selected s o) v ∙ rw (h, near, names-not luns calm g selected (completed s v), free .lacks)
 
-  address-leaves : (v : ℕ) (found : Findings) → targetAfter (stand g selected s o) (event 1 v) found ≡ stand g (rowSelects g selected (completed s v)) (addressed s v) (addressedOutput g (completed s v) o)
+  address-leaves : (v : ℕ) (found : Findings) → Unasked g luns (completed s v) → targetAfter (standing g luns selected s o) (event 1 v) found ≡ standing g luns (rowSelects g selected (completed s v)) (addressed s v) (addressedOutput g (completed s v) o)
   unfolding targetAfter highAfter clearAfter selectedAfter lunsAfter sequenceAfter outputAfter
-  address-leaves v found = refl
+  address-leaves v found free = rw (free .closes)
 
-  out-accepted : hasOutput o ≡ true → outputWorks allReady o ≡ false → outputEnded g o ≡ false → rules.verdict (stand g selected s o) (event 3 0) ≡ Accepted
+  out-accepted : hasOutput o ≡ true → outputWorks luns o ≡ false → outputEnded g o ≡ false → rules.verdict (standing g luns selected s o) (event 3 0) ≡ Accepted
   unfolding orElse badRecord beforeReset misplaced fits lunWorks pastEnd
-  out-accepted h idle more = out-verdict (stand g selected s o) 0 ∙ rw (h, idle, more)
+  out-accepted h idle more = out-verdict (standing g luns selected s o) 0 ∙ rw (h, idle, more)
 
-  out-leaves : (found : Findings) → targetAfter (stand g selected s o) (event 3 0) found ≡ stand g selected s (advanced o)
+  out-leaves : (found : Findings) → targetAfter (standing g luns selected s o) (event 3 0) found ≡ standing g luns selected s (advanced o)
   unfolding targetAfter highAfter clearAfter selectedAfter lunsAfter sequenceAfter outputAfter
   out-leaves found = refl
 
-  pub in-accepted : (v : ℕ) → takesData s ≡ true → unoffered every (taking s) v ≡ false → dataEnded g (taking s) ≡ false → rules.verdict (stand g selected s o) (event 2 v) ≡ Accepted
+  pub in-accepted : (v : ℕ) → takesData s ≡ true → unoffered every (taking s) v ≡ false → dataEnded g (taking s) ≡ false → rules.verdict (standing g luns selected s o) (event 2 v) ≡ Accepted
   unfolding orElse beforeReset misplaced fits notOffered pastEnd
-  in-accepted v h offer more = in-verdict (stand g selected s o) v ∙ rw (h, offer, more)
+  in-accepted v h offer more = in-verdict (standing g luns selected s o) v ∙ rw (h, offer, more)
 
-  in-leaves : (v : ℕ) (found : Findings) → clearSet false (taking s) ≡ false → targetAfter (stand g selected s o) (event 2 v) found ≡ stand g selected (filled s (taking s) v) o
+  in-leaves : (v : ℕ) (found : Findings) → clearSet false (taking s) ≡ false → targetAfter (standing g luns selected s o) (event 2 v) found ≡ standing g luns selected (filled s (taking s) v) o
   unfolding targetAfter highAfter clearAfter selectedAfter lunsAfter sequenceAfter outputAfter
   in-leaves v found h = rw (h)
 
@@ -203,21 +229,23 @@ module _ (g : Geometry) (flag : ℕ) (fine : Fine (full g flag)) where
   unfolding targetAfter highAfter clearAfter selectedAfter lunsAfter sequenceAfter outputAfter
   still = onward fine (at-power (full g flag)) (event 0 0xff) (omega arith) (omega arith) (reset-accepted _) _ (λ _. refl)
 
-  pub command : (f : First) → Way (full g flag) (stand g 0 (started f) (firstOutput 0 (first.Found f)))
-  command f = onward fine still (event 0 (byteOf f)) (omega arith) (leb-true _ _ (fresh f .4)) (opens g f) _ (λ _. opened-by g f _)
+  pub second : (luns : List Lun) (selected : ℕ) (s : Sequence) (o : Output) (v : ℕ) → Second s v → (y : Target) → ((counts : List ℕ) → targetAfter (standing g luns selected s o) (event 0 v) (findings g s (event 0 v) counts (flagsOf (full g flag))) ≡ y)
+      → Way (full g flag) (standing g luns selected s o) → Way (full g flag) y
+  second luns selected s o v which y leaves w = onward fine w (event 0 v) (omega arith) (second-small which) (second-accepted g luns selected o which) y leaves
 
-  pub second : (selected : ℕ) (s : Sequence) (o : Output) (v : ℕ) → Second s v → (y : Target) → ((counts : List ℕ) → targetAfter (stand g selected s o) (event 0 v) (findings g s (event 0 v) counts (flagsOf (full g flag))) ≡ y)
-      → Way (full g flag) (stand g selected s o) → Way (full g flag) y
-  second selected s o v which y leaves w = onward fine w (event 0 v) (omega arith) (second-small which) (second-accepted g selected o which) y leaves
+  -- the other cycles, while no LUN works
+  module _ (luns : List Lun) (calm : Calm luns) where
+    pub command : (selected : ℕ) (o : Output) → Way (full g flag) (standing g luns selected Idle o) → (f : First) → Way (full g flag) (standing g luns selected (started f) (firstOutput selected (first.Found f)))
+    command selected o w f = onward fine w (event 0 (byteOf f)) (omega arith) (leb-true _ _ (fresh f .4)) (opens luns calm g selected o f) _ (λ _. opened-by luns calm g selected o f _)
 
-  pub address : (selected : ℕ) (s : Sequence) (o : Output) (v : ℕ) → v ≤ 255 → takesAddress s ≡ true → beyond g (completed s v) ≡ false
-      → Way (full g flag) (stand g selected s o) → Way (full g flag) (stand g (rowSelects g selected (completed s v)) (addressed s v) (addressedOutput g (completed s v) o))
-  address selected s o v small h near w = onward fine w (event 1 v) (omega arith) small (address-accepted g selected s o v h near) _ (λ _. address-leaves g selected s o v _)
+    pub address : (selected : ℕ) (s : Sequence) (o : Output) (v : ℕ) → v ≤ 255 → takesAddress s ≡ true → beyond g (completed s v) ≡ false → Unasked g luns (completed s v)
+        → Way (full g flag) (standing g luns selected s o) → Way (full g flag) (standing g luns (rowSelects g selected (completed s v)) (addressed s v) (addressedOutput g (completed s v) o))
+    address selected s o v small h near free w = onward fine w (event 1 v) (omega arith) small (address-accepted g luns calm selected s o v h near free) _ (λ _. address-leaves g luns calm selected s o v _ free)
 
-  pub out : (selected : ℕ) (s : Sequence) (o : Output) → hasOutput o ≡ true → outputWorks allReady o ≡ false → outputEnded g o ≡ false
-      → Way (full g flag) (stand g selected s o) → Way (full g flag) (stand g selected s (advanced o))
-  out selected s o h idle more w = onward fine w (event 3 0) (omega arith) (omega arith) (out-accepted g selected s o h idle more) _ (λ _. out-leaves g selected s o _)
+    pub out : (selected : ℕ) (s : Sequence) (o : Output) → hasOutput o ≡ true → outputWorks luns o ≡ false → outputEnded g o ≡ false
+        → Way (full g flag) (standing g luns selected s o) → Way (full g flag) (standing g luns selected s (advanced o))
+    out selected s o h idle more w = onward fine w (event 3 0) (omega arith) (omega arith) (out-accepted g luns calm selected s o h idle more) _ (λ _. out-leaves g luns calm selected s o _)
 
-  pub data-in : (selected : ℕ) (s : Sequence) (o : Output) (v : ℕ) → v ≤ 255 → takesData s ≡ true → unoffered every (taking s) v ≡ false → dataEnded g (taking s) ≡ false → clearSet false (taking s) ≡ false
-      → Way (full g flag) (stand g selected s o) → Way (full g flag) (stand g selected (filled s (taking s) v) o)
-  data-in selected s o v small h offer more same w = onward fine w (event 2 v) (omega arith) small (in-accepted g selected s o v h offer more) _ (λ _. in-leaves g selected s o v _ same)
+    pub data-in : (selected : ℕ) (s : Sequence) (o : Output) (v : ℕ) → v ≤ 255 → takesData s ≡ true → unoffered every (taking s) v ≡ false → dataEnded g (taking s) ≡ false → clearSet false (taking s) ≡ false
+        → Way (full g flag) (standing g luns selected s o) → Way (full g flag) (standing g luns selected (filled s (taking s) v) o)
+    data-in selected s o v small h offer more same w = onward fine w (event 2 v) (omega arith) small (in-accepted g luns calm selected s o v h offer more) _ (λ _. in-leaves g luns calm selected s o v _ same)

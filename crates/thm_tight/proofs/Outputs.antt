@@ -9,7 +9,7 @@ use lib.Dec.{eqb, ltb, leb}
 use borrow.Author.Tests.{ltb-true, leb-true, lt-ltb, lt-leb}
 use Rattle.target.specs.Address.{lunOf, lunExists}
 use Rattle.target.specs.Sizes.{pageSize}
-use Rattle.target.specs.Commands.{rowOf, cyclesOf, thenOf, takesColumn, takesRow, knowsAddress, secondOf, secondRow}
+use Rattle.target.specs.Commands.{needsCopyback, rowOf, cyclesOf, thenOf, takesColumn, takesRow, knowsAddress, secondOf, secondRow}
 use Rattle.target.specs.Luns.{allReady}
 use Rattle.target.specs.Place.{hasOutput}
 use Rattle.target.specs.declared.Column.{Column}
@@ -36,7 +36,7 @@ use Rattle.thm_tight.proofs.Part.{Fine}
 use Rattle.thm_tight.proofs.Ways.{Way, to-end, reached}
 use Rattle.thm_tight.proofs.Cycles.{showing, second, full, stand, works-not, still, address, out}
 use Rattle.thm_tight.proofs.Addresses.{rowAt, lun-at, lun-there}
-use Rattle.thm_tight.proofs.Sequences.{row-whole, single}
+use Rattle.thm_tight.proofs.Sequences.{ready-free, begin, row-whole, single}
 
 -- 06h, and what it shows
 abbrev asked : Column → Row → Wait
@@ -47,13 +47,13 @@ unfolding targetAfter highAfter clearAfter selectedAfter lunsAfter sequenceAfter
 showed g selected c r found = refl
 
 -- the attributes of the commands that are named here
-asked-is : (takesRow ChangeColumnEnhanced ≡ true) × (takesColumn ChangeColumnEnhanced ≡ true) × (thenOf ChangeColumnEnhanced ≡ then.Second)
+asked-is : (takesRow ChangeColumnEnhanced ≡ true) × (takesColumn ChangeColumnEnhanced ≡ true) × (thenOf ChangeColumnEnhanced ≡ then.Second) × (needsCopyback ChangeColumnEnhanced ≡ false)
 unfolding rowOf
-asked-is = (refl, refl, refl)
+asked-is = (refl, refl, refl, refl)
 
-status-is : (takesRow StatusEnhanced ≡ true) × (takesColumn StatusEnhanced ≡ false) × (thenOf StatusEnhanced ≡ then.Status)
+status-is : (takesRow StatusEnhanced ≡ true) × (takesColumn StatusEnhanced ≡ false) × (thenOf StatusEnhanced ≡ then.Status) × (needsCopyback StatusEnhanced ≡ false)
 unfolding rowOf
-status-is = (refl, refl, refl)
+status-is = (refl, refl, refl, refl)
 
 lun-fits : (g : Geometry) (r : Row) → lunExists g r ≡ true → (rowFits g ChangeColumnEnhanced r ≡ true) × (rowFits g StatusEnhanced r ≡ true)
 unfolding rowOf
@@ -81,7 +81,7 @@ module _ (g : Geometry) (flag : ℕ) (fine : Fine (full g flag)) where
     outs selected w zero h = w
     outs selected w (suc n) h =
         subst (λ (o : Output). Way (full g flag) (stand g selected Idle o)) (next n ∙ ap places (add-one n))
-        (out g flag fine selected Idle (places n) (has n) (free n) (ends n ∙ lt-leb end n h) (outs selected w n (omega arith)))
+        (out g flag fine allReady works-not selected Idle (places n) (has n) (free n) (ends n ∙ lt-leb end n h) (outs selected w n (omega arith)))
 
   -- A register.
 
@@ -89,29 +89,30 @@ module _ (g : Geometry) (flag : ℕ) (fine : Fine (full g flag)) where
   register-below l h c below =
       let r = rowAt g l in
       let held : columnHeld g ChangeColumnEnhanced c ≡ true = rw (asked-is .1) (lt-ltb (c .0) (pageSize g) below) in
-      let due = row-whole g flag fine ChangeColumnEnhanced (asked-is .0) c held r (lun-fits g r (lun-there g m l h) .0) then.Second (asked-is .2) in
+      let due = row-whole g flag fine (begin g flag fine) ChangeColumnEnhanced (asked-is .0) c held r (lun-fits g r (lun-there g m l h) .0) (ready-free g ChangeColumnEnhanced r (asked-is .3)) then.Second (asked-is .2) in
       subst (λ (n : ℕ). Way (full g flag) (stand g n Idle (output.Register n c))) (lun-at g l)
-      (second g flag fine (lunOf g r) (Due (asked c r)) output.Nothing 0xe0 (showing refl) _ (λ _. showed g (lunOf g r) c r _) due)
+      (second g flag fine allReady (lunOf g r) (Due (asked c r)) output.Nothing 0xe0 (showing refl) _ (λ _. showed g (lunOf g r) c r _) due)
 
   -- past its last byte by data out there
   register : (l : ℕ) → l < g .luns → (c : Column) → c .0 ≤ pageSize g → Way (full g flag) (stand g l Idle (output.Register l c))
   register l h c most =
       let least = m .page-min in
       to-end (λ (x : Column). stand g l Idle (output.Register l x)) (pageSize g) (omega arith) (register-below l h)
-      (λ x below w. out g flag fine l Idle (output.Register l x) refl (works-not l) (lt-leb (pageSize g) (x .0) below) w)
+      (λ x below w. out g flag fine allReady works-not l Idle (output.Register l x) refl (works-not l) (lt-leb (pageSize g) (x .0) below) w)
       c most
 
   -- 78h: the status of the LUN, which it selects
   pub status : (l : ℕ) → l < g .luns → Way (full g flag) (stand g l Idle (output.Status l))
   status l h =
       subst (λ (n : ℕ). Way (full g flag) (stand g n Idle (output.Status n))) (lun-at g l)
-      (row-whole g flag fine StatusEnhanced (status-is .0) (record { 0 = 0 }) (rw (status-is .1)) (rowAt g l) (lun-fits g (rowAt g l) (lun-there g m l h) .1) then.Status (status-is .2))
+      (row-whole g flag fine (begin g flag fine) StatusEnhanced (status-is .0) (record { 0 = 0 }) (rw (status-is .1)) (rowAt g l) (lun-fits g (rowAt g l) (lun-there g m l h) .1) (ready-free g StatusEnhanced (rowAt g l) (status-is .3)) then.Status (status-is .2))
 
   -- after a command with one address
   answered : (f : First) (v : ℕ) → v ≤ 255 → eqb (cyclesOf f) 1 ≡ true → (next : Then) → thenOf f ≡ next → knowsAddress f v ≡ true → Way (full g flag) (stand g 0 (followed next f (record { 0 = 0 }) (record { 0 = 0 })) (shown next 0 v output.Nothing))
   answered f v small one next told h =
       subst (λ (x : Then). Way (full g flag) (stand g 0 (followed x f (record { 0 = 0 }) (record { 0 = 0 })) (shown x 0 v output.Nothing))) told
-      (address g flag fine 0 (Single f) output.Nothing v small refl (rw (h)) (single g flag fine f one))
+      (address g flag fine allReady works-not 0 (Single f) output.Nothing v small refl (rw (h)) (record { lacks = refl; closes = refl })
+      (single g flag fine (begin g flag fine) f one))
 
   given : (selected : ℕ) (o : Output) → Way (full g flag) (stand g selected Idle o) → Shows g o
   given selected o w = reached (λ (t : Target). t .decoder .output ≡ o) fine w refl

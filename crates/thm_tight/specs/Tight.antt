@@ -9,7 +9,7 @@ use Prim.Native.Nat.{ℕ, _<_, _≤_}
 use lib.ListN.{length}
 use lib.Dec.{leb}
 use Rattle.slices.specs.Cells.{allAtMost}
-use Rattle.target.specs.Luns.{works, failed}
+use Rattle.target.specs.Luns.{works, failed, copybackAt}
 use Rattle.target.specs.declared.Event.{Event}
 use Rattle.target.specs.declared.Geometry.{Geometry}
 use Rattle.target.specs.declared.Target.{Target}
@@ -77,11 +77,13 @@ SequenceGiven g (Single f) = Stands g (Single f)
 SequenceGiven g (Due k) =
     Leaves {A = First × Column} g Due (λ j. (j .first, j .column)) k
     × Leaves {A = First × Row} g Due (λ j. (j .first, j .row)) k
-SequenceGiven g (Filling k) = Leaves g Filling (λ j. j .row) k × Leaves g Filling (λ j. j .at) k
+SequenceGiven g (Filling k) =
+    Leaves {A = First × Row} g Filling (λ j. (j .first, j .row)) k
+    × Leaves {A = First × Column} g Filling (λ j. (j .first, j .at)) k
 SequenceGiven g (Moving k) =
-    Leaves g Moving (λ j. j .row) k
-    × Leaves g Moving (λ j. j .got) k
-    × Leaves g Moving (λ j. j .low) k
+    Leaves {A = First × Row} g Moving (λ j. (j .first, j .row)) k
+    × Leaves {A = First × ℕ} g Moving (λ j. (j .first, j .got)) k
+    × Leaves {A = First × ℕ} g Moving (λ j. (j .first, j .low)) k
 SequenceGiven g (Setting k) = Leaves g Setting (λ j. j .got) k × Leaves g Setting (λ j. j .value) k
 
 abbrev pub OutputGiven : Geometry → Output → Type 0
@@ -108,6 +110,7 @@ pub record Given (t : Target) : Type 0 where
   pub selected : Reached (t .geometry) (λ u. u .selected ≡ t .selected)
   pub working : (l : ℕ) → l < 4 → Reached (t .geometry) (λ u. works (u .luns) l ≡ works (t .luns) l)
   pub fail : (l : ℕ) → l < 4 → Reached (t .geometry) (λ u. failed (u .luns) l ≡ failed (t .luns) l)
+  pub copyback : (l : ℕ) → l < 4 → Reached (t .geometry) (λ u. copybackAt (u .luns) l ≡ copybackAt (t .luns) l)
   pub sequence : SequenceGiven (t .geometry) (t .decoder .sequence)
   pub output : OutputGiven (t .geometry) (t .decoder .output)
 

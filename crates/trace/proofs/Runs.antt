@@ -45,9 +45,9 @@ use Rattle.trace.specs.Data.{isData, AllData, decoding, fillingAt, regis
 use Rattle.trace.proofs.Turns.{eventAt, turned, stands-kept}
 
 -- the verdict on a data-in cycle of a program that has room
-in-passes : (t : Target) (r : Row) (at v : ℕ) → t .seen ≡ true → at < pageSize (t .geometry) → verdict (filling t r at) (event 2 v) ≡ Accepted
+in-passes : (t : Target) (f : Fill) (at v : ℕ) → t .seen ≡ true → at < pageSize (t .geometry) → verdict (filling t f at) (event 2 v) ≡ Accepted
 unfolding orElse beforeReset misplaced fits notOffered pastEnd
-in-passes t r at v seen room = in-verdict (filling t r at) v ∙ rw (seen, lt-leb (pageSize (t .geometry)) at room)
+in-passes t f at v seen room = in-verdict (filling t f at) v ∙ rw (seen, lt-leb (pageSize (t .geometry)) at room)
 
 out-passes : (t : Target) (l c : ℕ) → t .seen ≡ true → works (t .luns) l ≡ false → c < pageSize (t .geometry) → verdict (giving t l c) (event 3 0) ≡ Accepted
 unfolding orElse badRecord beforeReset misplaced fits lunWorks pastEnd
@@ -61,14 +61,14 @@ module _ (params flags : List ℕ) (b : Buffers) where
   abbrev Fit : Target → Type 0
   Fit t = usable t (length params) (length (b .array)) (length (b .registers)) (length (b .counts)) (length flags) ≡ true
 
-  in-step : (t : Target) (r : Row) (at v : ℕ) → Fit (filling t r at) → t .seen ≡ true → at < pageSize (t .geometry)
-      → stepOf (filling t r at) (event 2 v) params b flags
-      ≡ record { reply = reply.Accepted; target = filling t r (at + 1); buffers = record { array = b .array; registers = registersAfter (t .geometry) (work.Put (lunOf (t .geometry) r) (record { 0 = at }) v) (b .array) (b .registers); counts = b .counts } }
+  in-step : (t : Target) (f : Fill) (at v : ℕ) → Fit (filling t f at) → t .seen ≡ true → at < pageSize (t .geometry)
+      → stepOf (filling t f at) (event 2 v) params b flags
+      ≡ record { reply = reply.Accepted; target = filling t f (at + 1); buffers = record { array = b .array; registers = registersAfter (t .geometry) (work.Put (lunOf (t .geometry) (f .row)) (record { 0 = at }) v) (b .array) (b .registers); counts = b .counts } }
   unfolding steady byVerdict accepted acceptedBy replyOf worked workOf arrayAfter countsAfter targetAfter highAfter clearAfter selectedAfter lunsAfter sequenceAfter outputAfter
-  in-step t r at v fit seen room =
-      step-steady (filling t r at) (event 2 v) params b flags fit
-      ∙ ap (λ x. byVerdict x (filling t r at) (event 2 v) params b flags) (in-passes t r at v seen room)
-      ∙ (λ j. record { reply = reply.Accepted; target = decoding t (or-false (t .seen) j) (record { sequence = fillingAt r (at + 1); output = t .decoder .output }); buffers = record { array = b .array; registers = registersAfter (t .geometry) (work.Put (lunOf (t .geometry) r) (record { 0 = at }) v) (b .array) (b .registers); counts = b .counts } })
+  in-step t f at v fit seen room =
+      step-steady (filling t f at) (event 2 v) params b flags fit
+      ∙ ap (λ x. byVerdict x (filling t f at) (event 2 v) params b flags) (in-passes t f at v seen room)
+      ∙ (λ j. record { reply = reply.Accepted; target = decoding t (or-false (t .seen) j) (record { sequence = fillingAt f (at + 1); output = t .decoder .output }); buffers = record { array = b .array; registers = registersAfter (t .geometry) (work.Put (lunOf (t .geometry) (f .row)) (record { 0 = at }) v) (b .array) (b .registers); counts = b .counts } })
 
   out-step : (t : Target) (l c : ℕ) → Fit (giving t l c) → t .seen ≡ true → works (t .luns) l ≡ false → c < pageSize (t .geometry)
       → stepOf (giving t l c) (event 3 0) params b flags
@@ -126,12 +126,12 @@ took-one page base records i at j start s registers room put told before =
 
 module _ (params flags records : List ℕ) (t : Target) (i : ℕ) (b : Buffers) (room : List ℕ) (seen : t .seen ≡ true) where
   -- where the run stands after k data-in cycles
-  module _ (r : Row) (at : ℕ) where
+  module _ (f : Fill) (at : ℕ) where
     abbrev took : ℕ → Taking
-    took k = takenIn (pageSize (t .geometry)) (lunOf (t .geometry) r * pageSize (t .geometry)) records i at k (record { registers = b .registers; room = room })
+    took k = takenIn (pageSize (t .geometry)) (lunOf (t .geometry) (f .row) * pageSize (t .geometry)) records i at k (record { registers = b .registers; room = room })
 
     abbrev pub inAfter : ℕ → Running
-    inAfter k = record { target = filling t r (at + k); done = i + k; buffers = record { array = b .array; registers = took k .registers; counts = b .counts }; room = took k .room }
+    inAfter k = record { target = filling t f (at + k); done = i + k; buffers = record { array = b .array; registers = took k .registers; counts = b .counts }; room = took k .room }
 
     in-next : (k : ℕ) → standsUsable params flags (inAfter k) ≡ true → at + k < pageSize (t .geometry) → isData false records (i + k) ≡ true
         → inAfter (suc k) ≡ oneMore params flags (inAfter k) (eventAt records (i + k))
@@ -139,9 +139,9 @@ module _ (params flags records : List ℕ) (t : Target) (i : ℕ) (b : Buffers) 
     in-next k fit here data-in =
         let up : at + suc k ≡ at + k + 1 = omega arith in
         let on : i + suc k ≡ i + k + 1 = omega arith in
-        (λ x. record { target = filling t r (up x); done = on x; buffers = record { array = b .array; registers = took (suc k) .registers; counts = b .counts }; room = took (suc k) .room })
+        (λ x. record { target = filling t f (up x); done = on x; buffers = record { array = b .array; registers = took (suc k) .registers; counts = b .counts }; room = took (suc k) .room })
         ∙ sym (ap (λ (o : Outcome). record { target = o .target; done = i + k + 1; buffers = o .buffers; room = written (took k .room) (i + k) (o .reply) })
-        (in-step params flags (record { array = b .array; registers = took k .registers; counts = b .counts }) t r (at + k) (getD records (2 * (i + k) + 1) 0) fit seen here))
+        (in-step params flags (record { array = b .array; registers = took k .registers; counts = b .counts }) t f (at + k) (getD records (2 * (i + k) + 1) 0) fit seen here))
         ∙ ap (oneMore params flags (inAfter k)) (sym (in-event records (i + k) data-in))
 
     pub in-run : (k : ℕ) (z : Running) → at + k ≤ pageSize (t .geometry) → 2 * (i + k) ≤ length records → AllData false records i k → standsUsable params flags (inAfter 0) ≡ true
@@ -222,23 +222,23 @@ module _ (params flags records array registers counts room : List ℕ) (t : Targ
 
   module _ (fit : usable t (length params) (length array) (length registers) (length counts) (length flags) ≡ true) (seen : t .seen ≡ true) where
     module _ (f : Fill) (e : t .decoder .sequence ≡ Filling f) where
-      in-zero : now ≡ inAfter params flags records t i held room seen (f .row) (f .at .0) 0
+      in-zero : now ≡ inAfter params flags records t i held room seen f (f .at .0) 0
       unfolding takenIn
       in-zero =
           let up : f .at .0 ≡ f .at .0 + 0 = omega arith in
           let on : i ≡ i + 0 = omega arith in
           (λ x. standing (decoding t (t .seen) (record { sequence = e x; output = t .decoder .output })) i array registers counts room)
-          ∙ (λ x. standing (filling t (f .row) (up x)) (on x) array registers counts room)
+          ∙ (λ x. standing (filling t f (up x)) (on x) array registers counts room)
 
-      pub filled-on : (k : ℕ) (next : Target) (put told : List ℕ) → f .at .0 + k ≤ pageSize (t .geometry) → 2 * (i + k) ≤ length records → AllData false records i k → next ≡ filling t (f .row) (f .at .0 + k)
+      pub filled-on : (k : ℕ) (next : Target) (put told : List ℕ) → f .at .0 + k ≤ pageSize (t .geometry) → 2 * (i + k) ≤ length records → AllData false records i k → next ≡ filling t f (f .at .0 + k)
           → _≡_ {A = Taking} (record { registers = put; room = told }) (takenIn (pageSize (t .geometry)) (lunOf (t .geometry) (f .row) * pageSize (t .geometry)) records i (f .at .0) k (record { registers = registers; room = room }))
           → Carried params flags records array counts t i registers room next (i + k) put told
       unfolding standsUsable
       filled-on k next put told fits upto all is took =
-          let before : ranAll params flags (drop (i + 0) (eventsOf records)) (inAfter params flags records t i held room seen (f .row) (f .at .0) 0) ≡ ranAll params flags (drop i (eventsOf records)) now
-          = (let on : i + 0 ≡ i = omega arith in ap (λ (n : ℕ). ranAll params flags (drop n (eventsOf records)) (inAfter params flags records t i held room seen (f .row) (f .at .0) 0)) on ∙ ap (ranAll params flags (drop i (eventsOf records))) (sym in-zero)) in
-          let after = in-run params flags records t i held room seen (f .row) (f .at .0) k _ fits upto all (ap (standsUsable params flags) (sym in-zero) ∙ fit) before in
-          let end : standing next (i + k) array put counts told ≡ inAfter params flags records t i held room seen (f .row) (f .at .0) k = (λ x. standing (is x) (i + k) array (took x .registers) counts (took x .room)) in
+          let before : ranAll params flags (drop (i + 0) (eventsOf records)) (inAfter params flags records t i held room seen f (f .at .0) 0) ≡ ranAll params flags (drop i (eventsOf records)) now
+          = (let on : i + 0 ≡ i = omega arith in ap (λ (n : ℕ). ranAll params flags (drop n (eventsOf records)) (inAfter params flags records t i held room seen f (f .at .0) 0)) on ∙ ap (ranAll params flags (drop i (eventsOf records))) (sym in-zero)) in
+          let after = in-run params flags records t i held room seen f (f .at .0) k _ fits upto all (ap (standsUsable params flags) (sym in-zero) ∙ fit) before in
+          let end : standing next (i + k) array put counts told ≡ inAfter params flags records t i held room seen f (f .at .0) k = (λ x. standing (is x) (i + k) array (took x .registers) counts (took x .room)) in
           record { within = upto; fit = ap (standsUsable params flags) end ∙ after .0 ∙ sym fit; rest = ap (ranAll params flags (drop (i + k) (eventsOf records))) end ∙ after .1 }
 
     module _ (l : ℕ) (c : Column) (e : t .decoder .output ≡ output.Register l c) (idle : works (t .luns) l ≡ false) where

@@ -6,7 +6,7 @@ use mathlib.Core.List.{List}
 use lib.ListN.{length, getD, set, drop}
 use lib.Dec.{eqb}
 use Rattle.slices.specs.Cells.{part, splice}
-use Rattle.target.specs.declared.Row.{Row}
+use Rattle.target.specs.declared.Fill.{Fill}
 use Rattle.target.specs.declared.Decoder.{Decoder}
 use Rattle.target.specs.declared.Target.{Target}
 use Rattle.target.specs.declared.Sequence.{Sequence}
@@ -41,15 +41,15 @@ decoding t seen d = record {
 }
 
 -- a program with its next place, and the place of the register that is put out
-abbrev pub fillingAt : Row → ℕ → Sequence
-fillingAt r at = Filling (record { row = r; at = record { 0 = at } })
+abbrev pub fillingAt : Fill → ℕ → Sequence
+fillingAt f at = Filling (record { first = f .first; row = f .row; at = record { 0 = at } })
 
 abbrev pub registerAt : ℕ → ℕ → Output
 registerAt l c = output.Register l (record { 0 = c })
 
 -- the record at that place
-abbrev pub filling : Target → Row → ℕ → Target
-filling t r at = decoding t (t .seen) (record { sequence = fillingAt r at; output = t .decoder .output })
+abbrev pub filling : Target → Fill → ℕ → Target
+filling t f at = decoding t (t .seen) (record { sequence = fillingAt f at; output = t .decoder .output })
 
 abbrev pub giving : Target → ℕ → ℕ → Target
 giving t l c = decoding t (t .seen) (record { sequence = t .decoder .sequence; output = registerAt l c })

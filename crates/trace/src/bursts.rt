@@ -8,7 +8,6 @@ use target::Decoder;
 use target::Fill;
 use target::Output;
 use target::Reply;
-use target::Row;
 use target::Sequence;
 use target::Target;
 use target::address::lun_of;
@@ -98,13 +97,13 @@ fn give_out(registers: &[u8], i: usize, from: usize, k: usize, room: &mut [u8])
     }
 }
 
-fn with_place(t: Target, row: Row, at: usize) -> Target
-    ensures { λ x. ⌜ x ≡ filling t row at ⌝ }
+fn with_place(t: Target, fill: Fill, at: usize) -> Target
+    ensures { λ x. ⌜ x ≡ filling t fill at ⌝ }
 {
     let d = t.decoder;
     let column = Column(at);
-    let fill = Fill { row, at: column };
-    let sequence = Sequence::Filling(fill);
+    let next = Fill { at: column, ..fill };
+    let sequence = Sequence::Filling(next);
     let decoder = Decoder { sequence, ..d };
     Target { decoder, ..t }
 }
@@ -159,7 +158,7 @@ fn fill_burst(
     let k = data_run(false, records, i, most);
     take_in(p, l * p, records, i, at.0, k, registers, room);
     Carry {
-        target: with_place(t, row, at.0 + k),
+        target: with_place(t, fill, at.0 + k),
         count: k,
     }
 }

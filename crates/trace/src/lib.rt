@@ -1,5 +1,5 @@
 // Byte traces: two-byte records in, two-byte replies out, over the proved step.
-pub mod bursts;
+mod bursts;
 
 use bursts::burst;
 use bursts::may_burst;

@@ -24,6 +24,7 @@ returns c =
     rw (
       c .with-lun .ensures,
       c1 .lun-begun .ensures,
+      c2 .lun-at .ensures,
       c3 .lun-of .ensures,
     )
 

@@ -13,6 +13,9 @@ enum-known-k c = search needs
 second-row-requires : tie.Need-second-row-requires
 second-row-requires c κs = search needs
 
+end-closes-requires : tie.Need-end-closes-requires
+end-closes-requires c κs = search needs
+
 begun-requires : tie.Need-begun-requires
 begun-requires c κs = search needs
 
@@ -25,13 +28,15 @@ returns c = search needs
 returns-2 : tie.Need-returns-2
 returns-2 c =
     let c1 = c .before in
-    let c3 = c1 .before .before in
-    let c6 = c3 .before .before .before in
+    let c2 = c1 .before in
+    let c4 = c2 .before .before in
+    let c7 = c4 .before .before .before in
     rw (
       c .pick-luns .ensures,
       c1 .begun .ensures,
-      c3 .second-row .ensures,
-      c6 .k .given .1,
+      c2 .end-closes .ensures,
+      c4 .second-row .ensures,
+      c7 .k .given .1,
     )
 
 pub ended-luns-spec : {M : Type 1} → statement M
@@ -41,6 +46,7 @@ ended-luns-spec =
     enum-told
     enum-known-k
     second-row-requires
+    end-closes-requires
     begun-requires
     pick-luns-requires
     returns

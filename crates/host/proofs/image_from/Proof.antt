@@ -10,6 +10,9 @@ of-working-requires c κs = search needs
 of-fail-requires : tie.Need-of-fail-requires
 of-fail-requires c κs = search needs
 
+of-copyback-requires : tie.Need-of-copyback-requires
+of-copyback-requires c κs = search needs
+
 mark-byte-requires : tie.Need-mark-byte-requires
 mark-byte-requires c κs = search needs
 
@@ -29,13 +32,15 @@ returns c =
     let c3 = c2 .before in
     let c4 = c3 .before in
     let c5 = c4 .before in
+    let c6 = c5 .before in
     rw (
       c .mark-byte4 .ensures,
       c1 .mark-byte3 .ensures,
       c2 .mark-byte2 .ensures,
       c3 .mark-byte .ensures,
-      c4 .of-fail .ensures,
-      c5 .of-working .ensures,
+      c4 .of-copyback .ensures,
+      c5 .of-fail .ensures,
+      c6 .of-working .ensures,
     )
 
 pub image-from-spec : {M : Type 1} → statement M
@@ -44,6 +49,7 @@ image-from-spec =
     (tie.spec
     of-working-requires
     of-fail-requires
+    of-copyback-requires
     mark-byte-requires
     mark-byte-requires-2
     mark-byte-requires-3

@@ -11,14 +11,20 @@ four-marks-requires c κs = search needs
 four-marks-requires-2 : tie.Need-four-marks-requires-2
 four-marks-requires-2 c κs = search needs
 
+four-marks-requires-3 : tie.Need-four-marks-requires-3
+four-marks-requires-3 c κs = search needs
+
 returns : tie.Need-returns
 unfolding marksGood
 returns c =
     let c1 = c .before in
+    let c2 = c1 .before in
     rw (
-      c .four-marks2 .ensures,
-      c1 .four-marks .ensures,
+      c .four-marks3 .ensures,
+      c1 .four-marks2 .ensures,
+      c2 .four-marks .ensures,
     )
 
 pub marks-good-spec : {M : Type 1} → statement M
-marks-good-spec = tie.close (tie.spec four-marks-requires four-marks-requires-2 returns)
+marks-good-spec =
+    tie.close (tie.spec four-marks-requires four-marks-requires-2 four-marks-requires-3 returns)

@@ -8,6 +8,9 @@ use Rattle.rules.proofs.unknown.Tie as tie
 is-known-requires : tie.Need-is-known-requires
 is-known-requires c κs = search needs
 
+is-open-requires : tie.Need-is-open-requires
+is-open-requires c κs = search needs
+
 offered-requires : tie.Need-offered-requires
 offered-requires c κs = search needs
 
@@ -15,10 +18,12 @@ returns : tie.Need-returns
 unfolding unknown
 returns c =
     let c1 = c .before in
+    let c2 = c1 .before in
     rw (
       c .offered .ensures,
-      c1 .is-known .ensures,
+      c1 .is-open .ensures,
+      c2 .is-known .ensures,
     )
 
 pub unknown-spec : {M : Type 1} → statement M
-unknown-spec = tie.close (tie.spec is-known-requires offered-requires returns)
+unknown-spec = tie.close (tie.spec is-known-requires is-open-requires offered-requires returns)

@@ -10,8 +10,8 @@ enum-told c = search needs
 enum-known-k : tie.Need-enum-known-k
 enum-known-k c = search needs
 
-add-t10 : tie.Need-add-t10
-add-t10 c =
+add-t11 : tie.Need-add-t11
+add-t11 c =
     let c4 = c .before .before .before .before in
     let small = rw (c4 .k .given .1) at (c4 .before .before .pre) in
     search needs
@@ -44,7 +44,7 @@ filled-spec =
     (tie.spec
     enum-told
     enum-known-k
-    add-t10
+    add-t11
     enum-known-k-2
     feature-byte-requires
     returns

@@ -10,13 +10,18 @@ is-set-requires c κs = search needs
 is-set-requires-2 : tie.Need-is-set-requires-2
 is-set-requires-2 c κs = search needs
 
+is-set-requires-3 : tie.Need-is-set-requires-3
+is-set-requires-3 c κs = search needs
+
 returns : tie.Need-returns
 returns c =
     let c1 = c .before in
+    let c2 = c1 .before in
     rw (
-      c .is-set2 .ensures,
-      c1 .is-set .ensures,
+      c .is-set3 .ensures,
+      c1 .is-set2 .ensures,
+      c2 .is-set .ensures,
     )
 
 pub lun-of-spec : {M : Type 1} → statement M
-lun-of-spec = tie.close (tie.spec is-set-requires is-set-requires-2 returns)
+lun-of-spec = tie.close (tie.spec is-set-requires is-set-requires-2 is-set-requires-3 returns)

@@ -34,8 +34,14 @@ first-number-requires-4 c κs = search needs
 enum-known-s-5 : tie.Need-enum-known-s-5
 enum-known-s-5 c = search needs
 
+first-number-requires-5 : tie.Need-first-number-requires-5
+first-number-requires-5 c κs = search needs
+
 enum-known-s-6 : tie.Need-enum-known-s-6
 enum-known-s-6 c = search needs
+
+first-number-requires-6 : tie.Need-first-number-requires-6
+first-number-requires-6 c κs = search needs
 
 enum-known-s-7 : tie.Need-enum-known-s-7
 enum-known-s-7 c = search needs
@@ -78,13 +84,19 @@ returns-5 c =
 
 returns-6 : tie.Need-returns-6
 returns-6 c =
-    let c3 = c .before .before .before in
-    rw (c3 .s5 .given .1)
+    let c4 = c .before .before .before .before in
+    rw (
+      c .first-number5 .ensures,
+      c4 .s5 .given .1,
+    )
 
 returns-7 : tie.Need-returns-7
 returns-7 c =
-    let c2 = c .before .before in
-    rw (c2 .s6 .given .1)
+    let c3 = c .before .before .before in
+    rw (
+      c .first-number6 .ensures,
+      c3 .s6 .given .1,
+    )
 
 returns-8 : tie.Need-returns-8
 returns-8 c =
@@ -105,7 +117,9 @@ of-sequence-spec =
     enum-known-s-4
     first-number-requires-4
     enum-known-s-5
+    first-number-requires-5
     enum-known-s-6
+    first-number-requires-6
     enum-known-s-7
     returns
     returns-2

@@ -40,6 +40,9 @@ fill-sound-requires c κs = search needs
 enum-known-s-6 : tie.Need-enum-known-s-6
 enum-known-s-6 c = search needs
 
+takes-program-data-requires : tie.Need-takes-program-data-requires
+takes-program-data-requires c κs = search needs
+
 row-exists-requires : tie.Need-row-exists-requires
 row-exists-requires c κs = search needs
 
@@ -92,10 +95,12 @@ returns-6 c =
 
 returns-7 : tie.Need-returns-7
 returns-7 c =
-    let c4 = c .before .before .before .before in
+    let c2 = c .before .before in
+    let c5 = c2 .before .before .before in
     rw (
       c .row-exists .ensures,
-      c4 .s6 .given .1,
+      c2 .takes-program-data .ensures,
+      c5 .s6 .given .1,
     )
 
 returns-8 : tie.Need-returns-8
@@ -119,6 +124,7 @@ sequence-sound-spec =
     enum-known-s-5
     fill-sound-requires
     enum-known-s-6
+    takes-program-data-requires
     row-exists-requires
     enum-known-s-7
     returns

@@ -51,7 +51,11 @@ returns-11 c = rw (c .match .keys11)
 
 returns-12 : tie.Need-returns-12
 unfolding firstOf rowOf
-returns-12 c =
+returns-12 c = rw (c .match .keys12)
+
+returns-13 : tie.Need-returns-13
+unfolding firstOf rowOf
+returns-13 c =
     let none = c .match .rest in
     rw (
       ne-eqb _ _ (none .1),
@@ -65,6 +69,7 @@ returns-12 c =
       ne-eqb _ _ (none .0 .0 .0 .0 .0 .0 .0 .0 .1),
       ne-eqb _ _ (none .0 .0 .0 .0 .0 .0 .0 .0 .0 .1),
       ne-eqb _ _ (none .0 .0 .0 .0 .0 .0 .0 .0 .0 .0 .1),
+      ne-eqb _ _ (none .0 .0 .0 .0 .0 .0 .0 .0 .0 .0 .0 .1),
     )
 
 pub first-of-spec : {M : Type 1} → statement M
@@ -82,4 +87,5 @@ first-of-spec =
     returns-9
     returns-10
     returns-11
-    returns-12)
+    returns-12
+    returns-13)

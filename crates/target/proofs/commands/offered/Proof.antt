@@ -5,39 +5,43 @@ use borrow.Author.Needs.{needs}
 use Rattle.target.proofs.commands.offered.Statement.{statement}
 use Rattle.target.proofs.commands.offered.Tie as tie
 
+second-of-requires : tie.Need-second-of-requires
+second-of-requires c κs = search needs
+
+offered-second-requires : tie.Need-offered-second-requires
+offered-second-requires c κs = search needs
+
+is-second-found-requires : tie.Need-is-second-found-requires
+is-second-found-requires c κs = search needs
+
 first-of-requires : tie.Need-first-of-requires
 first-of-requires c κs = search needs
 
-enum-told : tie.Need-enum-told
-enum-told c = search needs
-
-enum-known-f : tie.Need-enum-known-f
-enum-known-f c = search needs
-
-offered-to-requires : tie.Need-offered-to-requires
-offered-to-requires c κs = search needs
+offered-first-requires : tie.Need-offered-first-requires
+offered-first-requires c κs = search needs
 
 returns : tie.Need-returns
 unfolding offered
 returns c =
-    let c2 = c .before .before in
+    let c1 = c .before in
+    let c2 = c1 .before in
+    let c3 = c2 .before in
+    let c4 = c3 .before in
     rw (
-      ← c2 .first-of .ensures,
-      c .enum-told .given .1,
-    )
-
-returns-2 : tie.Need-returns-2
-unfolding offered
-returns-2 c =
-    let c2 = c .before .before in
-    let c4 = c2 .before .before in
-    rw (
-      c .offered-to .ensures,
-      ← c4 .first-of .ensures,
-      c2 .f .given .1,
+      c .offered-first .ensures,
+      c1 .first-of .ensures,
+      c2 .is-second-found .ensures,
+      c3 .offered-second .ensures,
+      c4 .second-of .ensures,
     )
 
 pub offered-spec : {M : Type 1} → statement M
 offered-spec =
     tie.close
-    (tie.spec first-of-requires enum-told enum-known-f offered-to-requires returns returns-2)
+    (tie.spec
+    second-of-requires
+    offered-second-requires
+    is-second-found-requires
+    first-of-requires
+    offered-first-requires
+    returns)

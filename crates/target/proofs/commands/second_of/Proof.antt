@@ -27,7 +27,11 @@ returns-5 c = rw (c .match .keys5)
 
 returns-6 : tie.Need-returns-6
 unfolding secondOf secondRow
-returns-6 c =
+returns-6 c = rw (c .match .keys6)
+
+returns-7 : tie.Need-returns-7
+unfolding secondOf secondRow
+returns-7 c =
     let none = c .match .rest in
     rw (
       ne-eqb _ _ (none .1),
@@ -35,7 +39,8 @@ returns-6 c =
       ne-eqb _ _ (none .0 .0 .1),
       ne-eqb _ _ (none .0 .0 .0 .1),
       ne-eqb _ _ (none .0 .0 .0 .0 .1),
+      ne-eqb _ _ (none .0 .0 .0 .0 .0 .1),
     )
 
 pub second-of-spec : {M : Type 1} → statement M
-second-of-spec = tie.close (tie.spec returns returns-2 returns-3 returns-4 returns-5 returns-6)
+second-of-spec = tie.close (tie.spec returns returns-2 returns-3 returns-4 returns-5 returns-6 returns-7)

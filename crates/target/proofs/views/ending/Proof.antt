@@ -19,14 +19,11 @@ enum-told-4 c = search needs
 enum-known-s : tie.Need-enum-known-s
 enum-known-s c = search needs
 
-takes-row-requires : tie.Need-takes-row-requires
-takes-row-requires c κs = search needs
-
 ended-by-requires : tie.Need-ended-by-requires
 ended-by-requires c κs = search needs
 
-end-of-requires : tie.Need-end-of-requires
-end-of-requires c κs = search needs
+ends-with-requires : tie.Need-ends-with-requires
+ends-with-requires c κs = search needs
 
 pick-ending-requires : tie.Need-pick-ending-requires
 pick-ending-requires c κs = search needs
@@ -62,14 +59,12 @@ returns-5 : tie.Need-returns-5
 returns-5 c =
     let c1 = c .before in
     let c2 = c1 .before in
-    let c3 = c2 .before in
-    let c7 = c3 .before .before .before .before in
+    let c6 = c2 .before .before .before .before in
     rw (
       c .pick-ending .ensures,
-      c1 .end-of .ensures,
+      c1 .ends-with .ensures,
       c2 .ended-by .ensures,
-      c3 .takes-row .ensures,
-      c7 .s .given .1,
+      c6 .s .given .1,
     )
 
 returns-6 : tie.Need-returns-6
@@ -97,9 +92,8 @@ ending-spec =
     enum-told-3
     enum-told-4
     enum-known-s
-    takes-row-requires
     ended-by-requires
-    end-of-requires
+    ends-with-requires
     pick-ending-requires
     enum-known-s-2
     ended-by-requires-2

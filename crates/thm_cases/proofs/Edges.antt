@@ -1,0 +1,19 @@
+-- Each edge of specs/Edges.antt, computed.
+-- Assumes nothing.
+use mathlib.Core.Path.{refl}
+use Rattle.thm_cases.specs.Edges.{Edges}
+use Rattle.thm_cases.proofs.Cases.{computes}
+
+pub edges : Edges
+unfolding computes
+edges = record {
+  low-told = refl;
+  low-array = refl;
+  low-counts = refl;
+  readied = refl;
+  ended = refl;
+  bad = refl;
+  no-room = refl;
+  room = refl;
+  unsigned = refl;
+}

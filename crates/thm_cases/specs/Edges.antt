@@ -1,0 +1,56 @@
+-- The promises of demand 1 and of the refusals that no event gets, each at its edge: a run on T1 from power-on, with what
+-- is told and left. The promises themselves are statements of crate `thm_demands`; here each is computed once.
+use mathlib.Core.Path.{_≡_}
+use mathlib.Core.List.{List, [], _∷_, _++_}
+use Prim.Native.Nat.{ℕ}
+use lib.ListN.{length, replicate}
+use Rattle.power.specs.Power.{powerNumber, powerOf}
+use Rattle.trace.specs.Run.{runNumber, traceOf}
+use Rattle.thm_cases.specs.Parts.{Part, t1, t1With, first, run, told}
+use Rattle.thm_cases.specs.Cases.{command, reset, column, row, dataIn, dataOut, protect, accepted, byte, refused, read}
+
+-- 80h, row 0, one byte and 10h, without a finish
+abbrev pub begun : List ℕ → List ℕ
+begun rest = command 0x80 (column 0 0 (row 0 (dataIn 0x3c (command 0x10 rest))))
+
+-- the same with the protect line at this level
+abbrev pub lined : ℕ → List ℕ
+lined level = reset (protect level (begun []))
+
+-- a LUN works, and then comes this command and a status
+abbrev pub cutBy : ℕ → List ℕ
+cutBy v = reset (begun (command v (command 0x70 (dataOut []))))
+
+-- output is open, an address comes where none fits, and output is asked for
+abbrev pub lost : List ℕ
+lost = reset (read (dataOut (1 ∷ 0 ∷ dataOut [])))
+
+-- the answer of a trace over a reply room of this length
+abbrev pub roomed : ℕ → List ℕ → ℕ
+roomed n records =
+    runNumber (traceOf (first t1 .target) records (replicate n 0) (t1 .params) (first t1 .buffers) (t1 .flags) .answer)
+
+-- power-on of T1 with another first byte of its page
+abbrev pub poweredBy : ℕ → List ℕ → ℕ
+poweredBy byte rest = powerNumber (powerOf (byte ∷ rest) 0x68 (t1 .array) (t1 .registers) (t1 .counts) (t1 .flags) .answer)
+
+abbrev pub behindFirst : List ℕ → List ℕ
+behindFirst [] = []
+behindFirst (v ∷ rest) = rest
+
+pub record Edges : Type 0 where
+  -- "While the protect line is low no event changes the array or the program counts": 10h is 7 then, and does nothing
+  pub low-told : told (t1With 0xa5 0) (lined 0) ≡ accepted 9 (refused 7 [])
+  pub low-array : run (t1With 0xa5 0) (lined 0) .buffers .array ≡ replicate 528 0xa5 ++ replicate 33264 0xff
+  pub low-counts : run (t1With 0xa5 0) (lined 0) .buffers .counts ≡ replicate 64 0
+  -- "one FFh .. leaves every LUN ready", and 70h says so
+  pub readied : told t1 (cutBy 0xff) ≡ accepted 11 (byte 0xe0 [])
+  -- "drops the sequence under way and ends output": nothing is left to be put out
+  pub ended : told (t1With 0xa5 0) lost ≡ accepted 9 (byte 0xa5 (refused 3 (refused 3 [])))
+  -- a run with its own buffers meets 12, and never 13
+  pub bad : told t1 (reset (6 ∷ 0 ∷ [])) ≡ accepted 1 (refused 12 [])
+  -- 16: an odd last byte wants two bytes of room too
+  pub no-room : roomed 2 (reset (7 ∷ [])) ≡ 16
+  pub room : roomed 4 (reset (7 ∷ [])) ≡ 0
+  -- the lowest of 20 to 25: signature and CRC are both wrong here
+  pub unsigned : poweredBy 0x4e (behindFirst (t1 .params)) ≡ 21

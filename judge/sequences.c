@@ -1,0 +1,199 @@
+/* Runs the worked sequences of ../tests/sequences through the plain model.   sequences FILE...
+ *
+ * A file is a trace as nib's text, with its answers in the comments:
+ *   # case TITLE          what follows is on a part of its own, just reset (c ff)
+ *   # part NAME NUMBERS   that part is not quite W: features or optional WORD (hex), programs N, count or flag PLACE N
+ *   EVENTS # ANSWERS      a line of the trace; for each event a dot (accepted), two hex digits (a byte) or rN (refused)
+ * Other lines that begin with # are remarks. A file that breaks this form ends the program with 2. */
+#include "bench.h"
+
+#include <ctype.h>
+#include <stdlib.h>
+
+enum { LINE = 256, MOST = 600 };        /* characters of a line, bytes of records or replies */
+
+/* What a case may change of part W. */
+struct part {
+    uint32_t features, optional, programs;
+    uint8_t counts[64], flags[16];
+};
+
+static const struct part W = {.features = 0x010E, .optional = 0x005D, .programs = 4};
+
+static const char *file;                /* being read, and which line of it */
+static unsigned line_number, cases, lines;
+
+static void bad(const char *what, const char *word)
+{
+    fprintf(stderr, "%s:%u: %s: %s\n", file, line_number, what, word);
+    exit(2);
+}
+
+static unsigned number(const char *word, int base, unsigned most)
+{
+    char *end = NULL;
+    unsigned long n = word == NULL || !isxdigit((unsigned char)word[0]) ? most + 1ul : strtoul(word, &end, base);
+    if (end == NULL || *end != 0 || n > most)
+        bad("not a number as it should be", word == NULL ? "" : word);
+    return (unsigned)n;
+}
+
+static const char *next_word(void)
+{
+    return strtok(NULL, " \n");
+}
+
+/* The words after '# part'. */
+static void change_part(struct part *p)
+{
+    const char *name = next_word();
+    if (name == NULL)
+        bad("no name", "");
+    if (strcmp(name, "features") == 0)
+        p->features = number(next_word(), 16, 0xFFFF);
+    else if (strcmp(name, "optional") == 0)
+        p->optional = number(next_word(), 16, 0xFFFF);
+    else if (strcmp(name, "programs") == 0)
+        p->programs = number(next_word(), 10, 8);
+    else if (strcmp(name, "count") == 0) {
+        unsigned place = number(next_word(), 10, sizeof p->counts - 1);
+        p->counts[place] = (uint8_t)number(next_word(), 10, 255);
+    } else if (strcmp(name, "flag") == 0) {
+        unsigned place = number(next_word(), 10, sizeof p->flags - 1);
+        p->flags[place] = (uint8_t)number(next_word(), 10, 255);
+    } else
+        bad("no such number of a part", name);
+}
+
+static void make_part(struct bench *b, const struct part *p)
+{
+    static const uint8_t reset[2] = {0, 0xFF};
+    uint8_t got[3];
+    make_bench(b, 512, 16, 4, 8, 2, p->programs, p->features, p->optional);
+    memcpy(b->counts, p->counts, sizeof p->counts);
+    memcpy(b->flags, p->flags, sizeof p->flags);
+    check(power(b) == 0, "power-on with the case's counts and flags");
+    check(run_records(b, reset, 2, got) && got[0] == 0, "FFh");
+}
+
+/* nib's text to records; how many bytes. A word of one letter is no value: values in hex have two digits. */
+static size_t read_events(char *text, uint8_t *to)
+{
+    static const char letters[] = "cadofp";     /* kinds 0 to 5 */
+    const char *letter = NULL;
+    size_t n = 0;
+    for (const char *w = strtok(text, " \n"); w != NULL; w = next_word()) {
+        if (isalpha((unsigned char)w[0]) && w[1] == 0) {
+            letter = strchr(letters, w[0]);
+            if (letter == NULL)
+                bad("no such letter", w);
+            continue;
+        }
+        if (letter == NULL)
+            bad("no letter before it", w);
+        size_t kind = (size_t)(letter - letters);
+        unsigned value = number(w, kind < 3 ? 16 : 10, kind == 3 ? MOST / 2 : 255);
+        for (unsigned times = kind == 3 ? value : 1; times > 0; times--) {
+            if (n + 2 > MOST)
+                bad("a line too long", w);
+            to[n++] = (uint8_t)kind;
+            to[n++] = kind == 3 ? 0 : (uint8_t)value;
+        }
+    }
+    return n;
+}
+
+/* The answers to replies; how many bytes. */
+static size_t read_answers(char *text, uint8_t *to)
+{
+    size_t n = 0;
+    for (const char *w = strtok(text, " \n"); w != NULL; w = next_word()) {
+        size_t dots = strspn(w, ".");
+        if (n + 2 * dots + 2 > MOST || (dots != 0 && w[dots] != 0))
+            bad("a line too long, or not an answer", w);
+        for (size_t i = 0; i < dots; i++, n += 2)
+            to[n] = to[n + 1] = 0;
+        if (dots != 0)
+            continue;
+        bool refused = w[0] == 'r';
+        to[n++] = refused ? 2 : 1;
+        to[n++] = (uint8_t)(refused ? number(w + 1, 10, 255) : number(w, 16, 0xFF));
+    }
+    return n;
+}
+
+static void print_replies(const char *what, const uint8_t *replies, size_t n)
+{
+    printf("  %s", what);
+    for (size_t i = 0; i < n; i += 2)
+        printf(replies[i] == 0 ? " ." : replies[i] == 1 ? " %02X" : " r%u", replies[i + 1]);
+    printf("\n");
+}
+
+static void run_line(struct bench *b, char *text)
+{
+    uint8_t in[MOST], want[MOST], got[MOST + 1];
+    char *answers = strchr(text, '#');
+    if (answers == NULL)
+        bad("no answers", text);
+    *answers++ = 0;
+    size_t n = read_events(text, in), w = read_answers(answers, want);
+    bool ran = run_records(b, in, n, got);
+    bool ok = ran && w == n && memcmp(got, want, n) == 0;
+
+    lines++;
+    check(ok, "a worked sequence");
+    if (!ok) {
+        printf("  %s:%u\n", file, line_number);
+        print_replies("due", want, w);
+        print_replies("got", got, n);
+    }
+}
+
+static void run_file(void)
+{
+    static struct bench b;
+    struct part p = W;
+    bool made = false;
+    char text[LINE], word[LINE];
+    FILE *f = fopen(file, "r");
+
+    if (f == NULL)
+        bad("can't be read", "");
+    for (line_number = 1; fgets(text, sizeof text, f) != NULL; line_number++) {
+        if (strchr(text, '\n') == NULL)
+            bad("a line too long, or a last one without its end", text);
+        strcpy(word, text);
+        const char *first = strtok(word, " \n");
+        if (first == NULL)
+            continue;
+        if (strcmp(first, "#") == 0) {
+            const char *what = next_word();
+            if (what != NULL && strcmp(what, "case") == 0) {
+                p = W;
+                made = false;
+                cases++;
+            } else if (what != NULL && strcmp(what, "part") == 0) {
+                if (made)
+                    bad("the part is made already", text);
+                change_part(&p);
+            }
+            continue;
+        }
+        if (!made)
+            make_part(&b, &p);
+        made = true;
+        run_line(&b, text);
+    }
+    fclose(f);
+}
+
+int main(int argc, char **argv)
+{
+    for (int i = 1; i < argc; i++) {
+        file = argv[i];
+        run_file();
+    }
+    printf("%u worked sequences, %u lines, %u checks, %u wrong\n", cases, lines, checks, wrong);
+    return wrong != 0 || lines == 0;
+}
