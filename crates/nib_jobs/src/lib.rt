@@ -48,13 +48,17 @@ fn tell_line(t: Telling, part: Shape, trace: &[u8], out: &mut Paper) -> Telling 
     }
 }
 
-fn tell_lines(part: Shape, trace: &[u8], out: &mut Paper) {
+fn telling_begun() -> Telling {
     let pen = begin(STDOUT_FILENO);
-    let mut t = Telling {
+    Telling {
         pen,
         at: 0,
         going: true,
-    };
+    }
+}
+
+fn tell_lines(part: Shape, trace: &[u8], out: &mut Paper) {
+    let mut t = telling_begun();
     let mut turns: u64 = 18446744073709551615;
     while 0 < turns {
         t = tell_line(t, part, trace, out);

@@ -45,6 +45,8 @@ use nib_text::writing::wrote_end;
 use nib_text::writing::wrote_next;
 use nib_text::writing::wrote_odd;
 use target::Geometry;
+ghost use mathlib.Core.Path.{_≡_};
+ghost use Prim.Native.Nat.{_+_, _<_};
 
 // As much of the last word as an error shows.
 pub type Last = [u8; 32];
@@ -285,6 +287,14 @@ fn text_byte(
     Text { pen, ..t }
 }
 
+// The place after one of `n` places.
+fn place_after(i: usize, n: usize) -> usize
+    requires { ⌜ i < n ⌝ }
+    ensures { λ r. ⌜ r ≡ i + 1 ⌝ }
+{
+    i + 1
+}
+
 fn text_bytes(
     from: Text,
     chunk: &[u8],
@@ -297,7 +307,7 @@ fn text_bytes(
     let mut i: usize = 0;
     while i < chunk.len() {
         t = text_byte(t, chunk[i], out, word, data, room);
-        i += 1;
+        i = place_after(i, chunk.len());
     }
     t
 }

@@ -21,8 +21,8 @@ shared-slice-read-text-byte c = omega arith
 text-byte-requires : tie.Need-text-byte-requires Inv-loop μ-loop
 text-byte-requires c κs = tt
 
-add-i : tie.Need-add-i Inv-loop μ-loop
-add-i c = omega arith
+place-after-requires : tie.Need-place-after-requires Inv-loop μ-loop
+place-after-requires c κs = omega arith
 
 loop-less : tie.Need-loop-less Inv-loop μ-loop
 loop-less c = omega arith
@@ -42,7 +42,7 @@ text-bytes-spec =
     loop-holds
     shared-slice-read-text-byte
     text-byte-requires
-    add-i
+    place-after-requires
     loop-less
     loop-again
     returns)
