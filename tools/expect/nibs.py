@@ -129,6 +129,7 @@ def files():
     yield 'look', read(LOOK)
     yield 'job_trace', read(open(os.path.join(DATA, 'job_script')).read())
     yield 'no_jobs', read(NONE)
+    yield 'cut_off', read('c 60  a 01 00 00  c d0  f 0  c 80  a 00 00 00')
     yield 'nothing', b''
     yield 'many', bytes(x for r in many() for x in r) + b'\x03'
     yield 'many_text', (write(many()) + 'x 03\n').encode()

@@ -39,6 +39,7 @@ fn jobs() {
         b"",
         b"no_jobs",
     );
+    tried(b"jobs, cut off", Asked::Jobs, b"", b"", b"cut_off");
     tried(b"jobs, of nothing", Asked::Jobs, b"", b"", b"nothing");
 }
 
