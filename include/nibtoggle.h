@@ -516,9 +516,11 @@ static inline uint64_t nib_lent_rest(const nib_target *t, const nib_lent *b)
 
 /* ---- Text and words ----
  *
- * A trace as people write it, as nib reads and writes it, and events, replies and refusals in words, as nib explain
- * tells them. A text is given byte by byte, and a line end after its last byte; so is a trace that is to be text. How
- * far it has come is a number, 0 at the start. */
+ * A trace as people write it, as nib reads and writes it; events, replies and refusals in words, as nib explain tells
+ * them; and a trace told as jobs, as nib jobs tells it. A text is given byte by byte, and a line end after its last
+ * byte; so is a trace that is to be text. How far it has come is a number, 0 at the start. A text that begins with
+ * NIB_TEXT_WITH_PART may also have words for whole jobs, as `program 1 5 3 0 3c a5`. */
+#define NIB_TEXT_WITH_PART (UINT64_C(1) << 45)
 
 /* What has been read after one byte more of a text. */
 uint64_t nib_text_next(uint64_t state, uint8_t byte);
@@ -532,8 +534,26 @@ enum nib_said {
     NIB_SAID_RECORD = 1,        /* value: the record's kind times 256, and its value */
     NIB_SAID_BYTE = 2,          /* value: a byte of the trace as it is */
     NIB_SAID_OUTS = 3,          /* value: so many data outs */
-    NIB_SAID_WRONG = 4          /* value: why the word is bad, 1 to 5, for nib_say_wrong */
+    NIB_SAID_WRONG = 4,         /* value: why the word is bad, 1 to 12, for nib_say_wrong */
+    NIB_SAID_LUN = 5,           /* a value of a job: its LUN, always the first; */
+    NIB_SAID_BLOCK = 6,
+    NIB_SAID_PAGE = 7,
+    NIB_SAID_COLUMN = 8,
+    NIB_SAID_COUNT = 9,         /* how many data outs; */
+    NIB_SAID_DATA = 10          /* a byte of a program */
 };
+
+/* What that byte adds, on a part: NIB_SAID_WRONG where it is a value that the part has not. columns is the page size,
+ * P. A part of 2^24 rows at most, as every part within the limits is. */
+uint64_t nib_text_on_part(uint64_t said, size_t luns, size_t blocks, size_t pages, uint16_t columns);
+
+/* The job that ends with that byte, enum nib_job_kind, where no word is bad; 0 for none. Ask it as nib_text_said is
+ * asked, and take what that byte adds as the job's last value. A value that did not come is 0. Its row is
+ * nib_row_number's, and nib_job_write writes it. */
+uint8_t nib_text_job(uint64_t state, uint8_t byte);
+
+/* The row of a page, as nib_row has it; 16,777,216, which nib_job_write answers as too wide, where there is none. */
+size_t nib_row_number(size_t luns, size_t blocks, size_t pages, size_t lun, size_t block, size_t page);
 
 /* 1 where that byte begins a word, else 0: an error names the last one that began. */
 uint8_t nib_text_begins(uint64_t state, uint8_t byte);
@@ -558,6 +578,15 @@ size_t nib_say_rule(uint8_t number, uint8_t *out, size_t length);
 
 /* Why a word of a text is bad. */
 size_t nib_say_wrong(uint8_t which, uint8_t *out, size_t length);
+
+/* A list of records told as jobs, line by line. The line at record number `at`, counted from 0, in words: a whole job,
+ * as `program LUN 1 block 5 page 3, column 0, 3 bytes`; a finish event; or what is no job. With luns 0 no part is
+ * known, and a job has its row. The words of a line name records counted from 1. */
+size_t nib_say_line(const uint8_t *records, size_t records_length, size_t at, size_t luns, size_t blocks, size_t pages,
+                    uint16_t columns, uint8_t *out, size_t length);
+
+/* Where the next line begins; `at` itself where the list has no record there. */
+size_t nib_line_next(const uint8_t *records, size_t records_length, size_t at);
 
 #ifdef __cplusplus
 }

@@ -88,7 +88,7 @@ class Library:
                                        trace + [ctypes.POINTER(ctypes.c_uint64), _size])
 
     def _speech(self) -> None:
-        """The grammar of the text and the words of `explain`."""
+        """The grammar of the text and the words of `explain` and `jobs`."""
         room: _Types = [ctypes.c_char_p, _size]
         state: _Types = [ctypes.c_uint64]
         byte: _Types = [_byte]
@@ -96,6 +96,12 @@ class Library:
         self.text_next = self._typed("nib_text_next", ctypes.c_uint64, state + byte)
         self.text_said = self._typed("nib_text_said", ctypes.c_uint64, state + byte)
         self.text_begins = self._typed("nib_text_begins", _byte, state + byte)
+        sizes: _Types = [_size, _size, _size, ctypes.c_uint16]
+        self.text_job = self._typed("nib_text_job", _byte, state + byte)
+        self.text_on_part = self._typed("nib_text_on_part", ctypes.c_uint64, state + sizes)
+        self.row_number = self._typed("nib_row_number", _size, 6 * [_size])
+        self.line_next = self._typed("nib_line_next", _size, room + [_size])
+        self.say_line = self._typed("nib_say_line", _size, room + [_size] + sizes + room)
         self.back_next = self._typed("nib_back_next", ctypes.c_uint64, state + byte)
         self.back_text = self._typed("nib_back_text", _size, state + byte + room)
         self.back_end = self._typed("nib_back_end", _size, state + room)
@@ -109,10 +115,10 @@ class Library:
         function.restype, function.argtypes = result, arguments
         return function
 
-    def words(self, say: Any, *numbers: int) -> str:
-        """What a function of words writes, given its numbers."""
+    def words(self, say: Any, *given: Union[int, bytes]) -> str:
+        """What a function of words writes, given what comes before its room."""
         room = ctypes.create_string_buffer(256)
-        written: int = say(*numbers, room, len(room))
+        written: int = say(*given, room, len(room))
         return room.raw[:written].decode("ascii")
 
     @classmethod

@@ -8,9 +8,9 @@ import os
 import sys
 import warnings
 from pathlib import Path
-from typing import BinaryIO, Callable, Dict, Iterator, NoReturn, Sequence, TextIO, Tuple, Union
+from typing import BinaryIO, Callable, Dict, Iterator, NoReturn, Optional, Sequence, TextIO, Tuple, Union
 
-from . import folder, parts, text
+from . import folder, jobs, parts, text
 from ._library import Library
 from .bench import Bench, make_folder, page_named, page_refusal
 from .part import FIELDS, PAGE_LENGTH, Part, crc, fields_outside
@@ -27,7 +27,9 @@ USAGE = """\
   nibtoggle dump DIR LUN BLOCK PAGE   a page of the array; the folder stays as it is
   nibtoggle diff DIR DIR           where two parts differ; status 3 if they do
   nibtoggle text < TEXT > TRACE    a trace from text, as: c 80  a 00 00 37 00 00  d 3c  o 16  f 1  p 0
+  nibtoggle text DIR < TEXT        with whole jobs too, on the folder's part, as: program 1 5 3 0 3c a5  f 1  erase 1 5
   nibtoggle text -d < TRACE        a trace as text
+  nibtoggle jobs [DIR] < TRACE     a trace told as whole jobs; with DIR by LUN, block and page of its part
   nibtoggle version                the version
   nibtoggle help                   these lines
 """
@@ -177,12 +179,31 @@ def explain(words: Sequence[str], out: TextIO) -> int:
     return OK
 
 
+def _part_in(words: Sequence[str]) -> Optional[Part]:
+    """The part of the folder that is named, from its page alone; None where none is."""
+    if not words:
+        return None
+    path = Path(words[0]) / "page"
+    page_ = _page_in(path)
+    refused = page_refusal(page_)
+    if refused is not None:
+        raise _refused(path, refused)
+    return Part.of(page_)
+
+
 def text_or_back(words: Sequence[str], out: TextIO) -> int:
-    whole = sys.stdin.buffer.read()
-    if words:
-        out.write(text.text_of(whole))
-    else:
-        out.buffer.write(text.records_of(whole, "standard input"))
+    if list(words) == ["-d"]:
+        out.write(text.text_of(sys.stdin.buffer.read()))
+        return OK
+    part = _part_in(words)
+    out.buffer.write(text.records_of(sys.stdin.buffer.read(), "standard input", part=part))
+    return OK
+
+
+def jobs_told(words: Sequence[str], out: TextIO) -> int:
+    part = _part_in(words)
+    for line in jobs.told(sys.stdin.buffer.read(), part):
+        out.write("%6d  %s\n" % line)
     return OK
 
 
@@ -276,8 +297,8 @@ Command = Callable[[Sequence[str], TextIO], int]
 #: Each command, and how many words may come after it.
 COMMANDS: Dict[str, Tuple[Command, Tuple[int, ...]]] = {
     "new": (new, (1, 2)), "parts": (known, (0,)), "run": (run, (1,)), "explain": (explain, (1,)), "page": (page, (1,)),
-    "dump": (dump, (4,)), "diff": (diff, (2,)), "text": (text_or_back, (0, 1)), "version": (version, (0,)), "help": (helped, (0,)),
-    "--help": (helped, (0,)), "-h": (helped, (0,)), "--version": (version, (0,)),
+    "dump": (dump, (4,)), "diff": (diff, (2,)), "text": (text_or_back, (0, 1)), "jobs": (jobs_told, (0, 1)),
+    "version": (version, (0,)), "help": (helped, (0,)), "--help": (helped, (0,)), "-h": (helped, (0,)), "--version": (version, (0,)),
 }
 
 
@@ -289,7 +310,7 @@ def _asked(words: Sequence[str]) -> Tuple[Command, Sequence[str]]:
     if "--help" in rest or "-h" in rest:
         return helped, []
     flags = [word for word in rest if word.startswith("-")]
-    if len(rest) not in counts or flags != (["-d"] if words[0] == "text" and rest else []):
+    if len(rest) not in counts or flags and (words[0] != "text" or flags != ["-d"]):
         raise WrongCall("no such call; these are:")
     return command, rest
 

@@ -5,15 +5,16 @@
     trace = records(Job("program", row=55, column=0x20F, data=b"<")) + records(Job("status", row=32, count=1))
     assert [job.kind for job in group(trace).jobs] == ["program", "status"]
 
-Rows and columns are plain numbers (`Part.row` gives a row), and a part's size is not looked at.
+Rows and columns are plain numbers (`Part.row` gives a row), and a part's size is not looked at but by `told`.
 """
 from __future__ import annotations
 
 import ctypes
 from dataclasses import dataclass
-from typing import List, NamedTuple, Optional, Union
+from typing import Iterator, List, NamedTuple, Optional, Tuple, Union
 
 from ._library import Library
+from .part import Part
 
 #: The five jobs, each at its number less one.
 KINDS = ("read", "read-out", "program", "erase", "status")
@@ -134,3 +135,21 @@ def first_misfit(trace: bytes, library: Optional[Library] = None) -> Optional[in
     trace = bytes(trace)
     place = (library or Library.found()).job_misfit(trace, len(trace))
     return None if place == _NO_MISFIT else place
+
+
+def sizes(part: Optional[Part]) -> Tuple[int, int, int, int]:
+    """A part as the library's functions of words take it; zeros for none."""
+    return (part.luns, part.blocks, part.pages, part.page_size) if part is not None else (0, 0, 0, 0)
+
+
+def told(trace: bytes, part: Optional[Part] = None, library: Optional[Library] = None) -> Iterator[Tuple[int, str]]:
+    """A trace told as jobs, as `nib jobs` does: the number of each line's first record, counted from 1, and its words. With a part
+    jobs have LUN, block and page; else their row."""
+    said = library or Library.found()
+    trace, at = bytes(trace), 0
+    while True:
+        after: int = said.line_next(trace, len(trace), at)
+        if after == at:
+            return
+        yield at + 1, said.words(said.say_line, trace, len(trace), at, *sizes(part))
+        at = after

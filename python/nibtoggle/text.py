@@ -4,11 +4,15 @@ from __future__ import annotations
 
 from typing import Iterator, List, Optional, Tuple, Type, Union
 
+from . import jobs
 from ._library import Library
+from .part import Part
 from .replies import DATA_OUT
 
-#: What a byte of text adds to the trace, as `nib_text_said` numbers it.
-_RECORD, _BYTE, _OUTS, _WRONG = range(1, 5)
+#: What a byte of text adds to the trace, as `nib_text_said` numbers it; the last six are a job's.
+_RECORD, _BYTE, _OUTS, _WRONG, _LUN, _BLOCK, _PAGE, _COLUMN, _COUNT, _DATA = range(1, 11)
+#: Where a text begins that is about a part.
+_WITH_PART = 1 << 45
 
 
 class BadWord(ValueError):
@@ -22,17 +26,22 @@ class BadWord(ValueError):
         return type(self), (self.name, self.line, self.place, self.word, self.why)
 
 
-def records_of(text: Union[str, bytes], name: str = "text", library: Optional[Library] = None) -> bytes:
-    """Text to trace. A word that is wrong raises BadWord, and there is no trace at all: none is to be run in part."""
+def records_of(text: Union[str, bytes], name: str = "text", library: Optional[Library] = None, part: Optional[Part] = None) -> bytes:
+    """Text to trace. A word that is wrong raises BadWord, and there is no trace at all: none is to be run in part.
+
+    With a part the text may have words for whole jobs, as `program 1 5 3 0 3c a5`: LUN, block, page, column and bytes.
+    """
     said = library if library is not None else Library.found()
     whole = text.encode("utf-8") if isinstance(text, str) else text
     trace: List[bytes] = []
-    state = start = 0
+    job = _OpenJob(said, part) if part is not None else None
+    state, start = _WITH_PART if job else 0, 0
     for at, byte in enumerate(whole + b"\n"):
         if said.text_begins(state, byte):
             start = at
         added: int = said.text_said(state, byte)
         if added:
+            added = job.on_part(added) if job else added
             what, value = added >> 16, added & 0xFFFF
             if what == _RECORD:
                 trace.append(value.to_bytes(2, "big"))
@@ -40,10 +49,42 @@ def records_of(text: Union[str, bytes], name: str = "text", library: Optional[Li
                 trace.append(bytes((value,)))
             elif what == _OUTS:
                 trace.append(bytes((DATA_OUT, 0)) * value)
-            else:
+            elif what == _WRONG:
                 raise _bad_word(said, name, whole, start, at, value)
+            elif job:
+                job.take(what, value)
+        if job:
+            trace.append(job.whole(said.text_job(state, byte)))
         state = said.text_next(state, byte)
     return b"".join(trace)
+
+
+class _OpenJob:
+    """The values of the job whose words come, on a part."""
+
+    def __init__(self, said: Library, part: Part) -> None:
+        self._said, self._part = said, part
+        self._values, self._data = [0] * 5, bytearray()
+
+    def on_part(self, added: int) -> int:
+        """What a byte adds, on the part: a bad word where it is a value that the part has not."""
+        return int(self._said.text_on_part(added, *jobs.sizes(self._part)))
+
+    def take(self, what: int, value: int) -> None:
+        if what == _LUN:                    # the first value of every job
+            self._values, self._data = [0] * 5, bytearray()
+        if what == _DATA:
+            self._data.append(value)
+        else:
+            self._values[what - _LUN] = value
+
+    def whole(self, kind: int) -> bytes:
+        """The records of the job that ends, by its number; none for 0."""
+        if not kind:
+            return b""
+        lun, block, page, column, count = self._values
+        row: int = self._said.row_number(self._part.luns, self._part.blocks, self._part.pages, lun, block, page)
+        return jobs.records(jobs.Job(jobs.KINDS[kind - 1], row, column, count, bytes(self._data)), self._said)
 
 
 def _bad_word(said: Library, name: str, text: bytes, start: int, end: int, why: int) -> BadWord:

@@ -221,8 +221,9 @@ class Defects(Nib):
                          {n: contents for n, (contents, _) in before.items()})
 
     def test_a_letter_where_a_value_is_wanted(self) -> None:
-        for given, told in ((b"c f\n", "place 3: 'f': a letter, where the one before it wants a value; a byte has two hex digits"),
-                            (b"c f 1\n", "place 3: 'f': a letter, where"), (b"c 80 f\n", "place 6: 'f': a letter with no value"),
+        for given, told in ((b"c f\n", "place 3: 'f': a letter or a job's word, where the letter before it wants a value; "
+                                      "a byte has two hex digits"),
+                            (b"c f 1\n", "place 3: 'f': a letter or a job's word, where"), (b"c 80 f\n", "place 6: 'f': a letter with no value"),
                             (b"c\n", "place 1: 'c': a letter with no value")):
             error = self.nib("text", given=given)[1]
             self.assertIn(told, error)

@@ -32,10 +32,11 @@ class Readme(unittest.TestCase):
             environment.pop("PYTHONPATH", None)
             done = subprocess.run(["sh", str(script)], cwd=ROOT, env=environment, stdout=subprocess.PIPE, stderr=subprocess.STDOUT, text=True)
             self.assertEqual(done.returncode, 0, done.stdout)
-            # what explain writes is what the README prints
-            printed = re.search(r"^    power-on accepted\n(?:    .*\n)+", TEXT, re.M)
-            assert printed is not None
-            self.assertIn("".join(line[4:] + "\n" for line in printed.group(0).splitlines()), done.stdout)
+            # what explain and jobs write is what the README prints
+            for first in ("power-on accepted", "     1  no job: command FFh  reset"):
+                printed = re.search(r"^    %s\n(?:    .*\n)+" % first, TEXT, re.M)
+                assert printed is not None
+                self.assertIn("".join(line[4:] + "\n" for line in printed.group(0).splitlines()), done.stdout)
             self.assertIn("LUN 1, block 5, page 3: programmed 1 times", done.stdout)
 
     def test_its_python(self) -> None:

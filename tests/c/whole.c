@@ -411,6 +411,70 @@ static void checked_pages(void)
     same("nine numbers", report[1] == 5 && report[6] == 110 && report[8] == 0 && report[9] == 0xEEEEEEEEEEEEEEEEu, 1);
 }
 
+/* A text with whole jobs on a part, by the functions of text and the writer of jobs: the trace's length, or minus the reason
+ * of its first bad word. */
+static int job_text(const char *text, nib_part p, uint8_t *trace, size_t room)
+{
+    uint64_t state = NIB_TEXT_WITH_PART;
+    size_t n = 0, given = 0, values[5] = {0};
+    uint8_t data[64];
+    for (size_t i = 0; i <= strlen(text); i++) {
+        uint8_t byte = text[i] ? (uint8_t)text[i] : '\n';
+        uint64_t said = nib_text_on_part(nib_text_said(state, byte), p.luns, p.blocks, p.pages, (uint16_t)p.page);
+        unsigned what = (unsigned)(said >> 16), value = (unsigned)(said & 0xFFFF), kind = nib_text_job(state, byte);
+        if (what == NIB_SAID_WRONG)
+            return -(int)value;
+        if (what == NIB_SAID_RECORD)
+            trace[n++] = (uint8_t)(value >> 8), trace[n++] = (uint8_t)value;
+        if (what == NIB_SAID_LUN)
+            memset(values, 0, sizeof values), given = 0;
+        if (what >= NIB_SAID_LUN && what <= NIB_SAID_COUNT)
+            values[what - NIB_SAID_LUN] = value;
+        if (what == NIB_SAID_DATA && given < sizeof data)
+            data[given++] = (uint8_t)value;
+        if (kind)
+            n += nib_job_write((uint8_t)kind, values[3], nib_row_number(p.luns, p.blocks, p.pages, values[0], values[1], values[2]),
+                               values[4], data, given, trace + n, room - n);
+        state = nib_text_next(state, byte);
+    }
+    return (int)n;
+}
+
+/* Words for whole jobs: each job, its end at a letter, a job's word and a line end, and every reason of a bad word. */
+static void job_words(void)
+{
+    nib_part t1 = {528, 4, 8, 2}, t2 = {528, 3, 5, 2};
+    static const uint8_t due[] = {0, 0x80, 1, 0x0F, 1, 2, 1, 0x37, 1, 0, 1, 0, 2, 0x3C, 2, 0xA5, 0, 0x10, 4, 1,
+                                  0, 0x00, 1, 0, 1, 0, 1, 0x37, 1, 0, 1, 0, 0, 0x30, 0, 0x60, 1, 0x34, 1, 0, 1, 0, 0, 0xD0,
+                                  0, 0x06, 1, 7, 1, 0, 1, 0x20, 1, 0, 1, 0, 0, 0xE0, 3, 0, 3, 0, 0, 0x78, 1, 0, 1, 0, 1, 0, 3, 0};
+    static const struct { const char *text; int why; } bad[] = {
+        {"3c", 1}, {"c", 2}, {"program 0 0 0 0 3", 3}, {"erase 0 x1", 4}, {"c erase", 5}, {"erase 0", 7}, {"erase 0 c ff", 7}, {"read", 7},
+        {"status 0 1 2", 8}, {"erase 2 0", 9}, {"erase 0 8", 10}, {"read 0 0 4 0", 11}, {"read 0 0 0 528", 12}, {"read-out 1 528 1", 12}};
+    uint8_t trace[256], out[256];
+    int n = job_text("program 1 5 3 527 3c a5  f 1\nread 1 5 3 0  erase 1 5 # away\nread-out 1 7 2\nstatus 0 1", t1, trace, sizeof trace);
+    same("job words", n == (int)sizeof due && memcmp(trace, due, sizeof due) == 0, 1);
+    for (size_t i = 0; i < sizeof bad / sizeof bad[0]; i++)
+        same(bad[i].text, (unsigned)-job_text(bad[i].text, t1, trace, sizeof trace), (unsigned)bad[i].why);
+    same("no part", nib_text_said(nib_text_next(nib_text_next(nib_text_next(nib_text_next(0, 'r'), 'e'), 'a'), 'd'), ' '),
+         (uint64_t)NIB_SAID_WRONG << 16 | 6);
+    for (size_t l = 0; l < 3; l++)
+        for (size_t b = 0; b < 6; b++)
+            for (size_t g = 0; g < 4; g++)
+                same("nib_row_number", nib_row_number(2, 5, 3, l, b, g), nib_page_exists(t2, l, b, g) ? nib_row(t2, l, b, g) : 1u << 24);
+
+    static const char *lines[] = {"program LUN 1 block 5 page 3, column 527, 2 bytes", "finish LUN 1", "read LUN 1 block 5 page 3, column 0",
+                                  "erase LUN 1 block 5", "read-out LUN 1, column 7, 2 bytes", "status LUN 0, 1 byte"};
+    size_t at = 0;
+    for (size_t i = 0; i < 6; i++) {
+        size_t said = nib_say_line(due, sizeof due, at, t1.luns, t1.blocks, t1.pages, (uint16_t)t1.page, out, sizeof out);
+        same(lines[i], said == strlen(lines[i]) && memcmp(out, lines[i], said) == 0, 1);
+        at = nib_line_next(due, sizeof due, at);
+    }
+    same("the trace's end", at == sizeof due / 2 && nib_line_next(due, sizeof due, at) == at, 1);
+    same("nothing there", nib_say_line(due, sizeof due, at, 0, 0, 0, 0, out, sizeof out), 0);
+    same("far past the end", nib_line_next(due, sizeof due, SIZE_MAX), SIZE_MAX);
+}
+
 /* Rows that are looked at, the version, and a text to a trace and back, with the words of its events. */
 static void text_and_words(void)
 {
@@ -452,6 +516,7 @@ static void text_and_words(void)
     }
     written += nib_back_end(state, out + written, sizeof out - written);
     same("a trace's text", written == sizeof back - 1 && memcmp(out, back, written) == 0, 1);
+    job_words();
     same("words that have no room", nib_say_event(0, NIB_COMMAND, 0x80, out, 7), 7);
     same("words to nowhere", nib_say_event(0, NIB_COMMAND, 0x80, NULL, 0), 0);
     for (unsigned number = 0; number < 256; number++) {

@@ -573,16 +573,20 @@ fn shape_in(path: &[u8], page: &[u8]) -> Shape {
     }
 }
 
+fn read_shape(path: &[u8], page: &mut Page) -> Shape {
+    if page_in(path, page) {
+        shape_in(path, page)
+    } else {
+        no_shape()
+    }
+}
+
 // The sizes of a folder's part, from its page; where there are none, a line says why.
 pub fn shape_of(dir: &[u8]) -> Shape {
     let mut path = [0u8; 4096];
     let mut page = [0u8; 256];
     let n = join(&mut path, dir, b"page");
-    if page_in(&path[..n], &mut page) {
-        shape_in(&path[..n], &page)
-    } else {
-        no_shape()
-    }
+    read_shape(&path[..n], &mut page)
 }
 
 // The folder's files into the buffers.

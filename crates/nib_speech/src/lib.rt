@@ -173,10 +173,10 @@ pub fn reason(out: &mut Paper, p: Pen, why: Wrong) -> Pen {
         Wrong::Early => text(
             out,
             p,
-            b"a letter, where the one before it wants a value; a byte has two hex digits",
+            b"a letter or a job's word, where the letter before it wants a value; a byte has two hex digits",
         ),
         Wrong::NoPart => text(out, p, b"a job's word, which needs a part: text DIR"),
-        Wrong::TooFew => text(out, p, b"the job before its end wants a value more"),
+        Wrong::TooFew => text(out, p, b"the job wants a value more"),
         Wrong::TooMany => text(out, p, b"a value more than the job takes"),
         Wrong::NoLun => text(out, p, b"the part has no such LUN"),
         Wrong::NoBlock => text(out, p, b"the part has no such block"),

@@ -1,6 +1,7 @@
 -- Words for whole jobs (document 02, A5): which words name one, and the values that come after each.
 use Prim.Native.Nat.{ℕ, _+_}
-use mathlib.Core.Bool.{Bool, _&&_, not}
+use mathlib.Core.Path.{_≡_}
+use mathlib.Core.Bool.{Bool, true, _&&_, not}
 use mathlib.Core.List.{List, [], _∷_}
 use lib.Dec.{eqb, ltb}
 use lib.ListN.{getD}
@@ -47,7 +48,7 @@ nameBegun b = pick (eqb b 114) 1 (pick (eqb b 112) 10 (pick (eqb b 101) 18 (pick
 unfoldable pub nameNext : ℕ → ℕ → ℕ
 nameNext n b = pick (eqb b (getD letters n 0) && not (eqb b 0) && ltb n 30) (n + 1) 31
 
--- the places where a word is whole (proved in proofs/Names.antt: by these words alone)
+-- the places where a word is whole
 unfoldable pub jobNamed : ℕ → First
 jobNamed n =
     pick (eqb n 4) first.Read
@@ -56,6 +57,29 @@ jobNamed n =
     (pick (eqb n 22) first.Erase
     (pick (eqb n 29) first.Status
     first.Nothing))))
+
+-- a word's bytes, first to last
+abbrev pub nameAfter : ℕ → List ℕ → ℕ
+nameAfter n [] = n
+nameAfter n (b ∷ bs) = nameAfter (nameNext n b) bs
+
+abbrev pub nameOf : List ℕ → ℕ
+nameOf [] = 0
+nameOf (b ∷ bs) = nameAfter (nameBegun b) bs
+
+abbrev pub wordOf : First → List ℕ
+wordOf first.Nothing = []
+wordOf first.Read = 114 ∷ (101 ∷ (97 ∷ (100 ∷ [])))
+wordOf first.ReadOut = readOutWord []
+wordOf first.Program = programWord []
+wordOf first.Erase = eraseWord []
+wordOf first.Status = statusWord []
+
+-- each job has its word, and no other word names one (proved in proofs/Names.antt): whoever believes these words need not read
+-- the places above
+pub record Names : Type 0 where
+  pub named : (f : First) → jobNamed (nameOf (wordOf f)) ≡ f
+  pub only : (bs : List ℕ) → isJob (jobNamed (nameOf bs)) ≡ true → bs ≡ wordOf (jobNamed (nameOf bs))
 
 abbrev pub asksNumber : Asks → ℕ
 asksNumber asks.Nothing = 0
