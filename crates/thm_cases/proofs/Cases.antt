@@ -15,7 +15,7 @@ use Rattle.target.specs.Words.{bitOf}
 use Rattle.target.specs.declared.Geometry.{Geometry}
 use Rattle.target.proofs.Both.{both}
 use Rattle.page.specs.Crc.{crcBit, crcBits, crcByte, crcFrom, crcOf}
-use Rattle.rules.specs.Rules.{unknown, beforeReset, fits, misplaced, outOfRange, lunWorks, othersBusy, lineLow, pastEnd, notOffered, notWorking, lineHeld, rules, verdict}
+use Rattle.rules.specs.Rules.{unknown, beforeReset, fits, misplaced, outOfRange, lunWorks, noCopyback, othersBusy, lineLow, pastEnd, notOffered, notWorking, lineHeld, rules, verdict}
 use Rattle.effects.specs.Effects.{sequenceAfter, outputAfter, lunsAfter, selectedAfter, clearAfter, highAfter, targetAfter, targetRefused, workOf}
 use Rattle.step.specs.Usable.{recordSound, usable}
 use Rattle.step.specs.Buffers.{blockIndex, pageIndex, registersAfter, arrayAfter, countsAfter, blockBad, pageFull, findings, statusOf, outputByte}
@@ -33,7 +33,7 @@ powers = tt
 
 -- and so is every definition of a run
 unfoldable pub computes : Unit {0}
-unfolding powers splice part andBytes orElse badRecord rowOf firstOf secondRow secondOf classOf offered bitsOf fieldWidth columnFrom rowFrom lunOf pageOf blockOf lunExists blockExists rowExists inLimits unknown beforeReset fits misplaced outOfRange lunWorks othersBusy lineLow pastEnd notOffered notWorking lineHeld rules verdict sequenceAfter outputAfter lunsAfter selectedAfter clearAfter highAfter targetAfter targetRefused workOf recordSound usable blockIndex pageIndex registersAfter arrayAfter countsAfter blockBad pageFull findings statusOf outputByte replyOf worked acceptedBy accepted byVerdict steady stepOf written oneMore ranAll eventsOf standsUsable oddAnswered needed traceOf
+unfolding powers splice part andBytes orElse badRecord rowOf firstOf secondRow secondOf classOf offered bitsOf fieldWidth columnFrom rowFrom lunOf pageOf blockOf lunExists blockExists rowExists inLimits unknown beforeReset fits misplaced outOfRange lunWorks noCopyback othersBusy lineLow pastEnd notOffered notWorking lineHeld rules verdict sequenceAfter outputAfter lunsAfter selectedAfter clearAfter highAfter targetAfter targetRefused workOf recordSound usable blockIndex pageIndex registersAfter arrayAfter countsAfter blockBad pageFull findings statusOf outputByte replyOf worked acceptedBy accepted byVerdict steady stepOf written oneMore ranAll eventsOf standsUsable oddAnswered needed traceOf
 computes = tt
 
 -- (a): the length that `sized` asks for

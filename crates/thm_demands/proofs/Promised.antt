@@ -361,9 +361,13 @@ module _ (page : List ℕ) (device : ℕ) (array registers counts flags : List �
   run-fit [] s h = h
   run-fit (e ∷ es) s h = run-fit es (left (stepAt page flags s e)) (step-usable (s .target) e page (s .buffers) flags h)
 
+and-none : (b : Bool) → (b && false) ≡ false
+and-none true = refl
+and-none false = refl
+
 pub reset-verdict : (t : Target) → verdict t reset ≡ verdicts.Accepted
 unfolding orElse beforeReset unknown rowOf firstOf secondOf secondRow classOf offered misplaced fits othersBusy lineLow
-reset-verdict t = command-verdict t 0xff
+reset-verdict t = command-verdict t 0xff ∙ rw (and-none (isOpen (t .decoder .sequence)))
 
 reset-steady : (s : State) (page flags : List ℕ) → (steady (s .target) reset page (s .buffers) flags .reply ≡ reply.Accepted) × (steady (s .target) reset page (s .buffers) flags .target .luns ≡ allReady)
 unfolding steady byVerdict accepted acceptedBy replyOf targetAfter lunsAfter

@@ -21,7 +21,7 @@ use Rattle.target.specs.Sizes.{pageSize, inLimits, sized}
 use Rattle.target.specs.Words.{bitOf}
 use Rattle.target.specs.declared.Reply.{Reply}
 use Rattle.target.specs.declared.Reply.the-variants.{Accepted, Byte}
-use Rattle.rules.specs.Rules.{unknown, beforeReset, fits, misplaced, outOfRange, lunWorks, othersBusy, lineLow, pastEnd, notOffered, notWorking, lineHeld, rules, verdict}
+use Rattle.rules.specs.Rules.{unknown, beforeReset, fits, misplaced, outOfRange, lunWorks, noCopyback, othersBusy, lineLow, pastEnd, notOffered, notWorking, lineHeld, rules, verdict}
 use Rattle.effects.specs.Effects.{sequenceAfter, outputAfter, lunsAfter, selectedAfter, clearAfter, highAfter, targetAfter, targetRefused, workOf}
 use Rattle.step.specs.Usable.{recordSound, usable}
 use Rattle.step.specs.Buffers.{blockIndex, pageIndex, registersAfter, arrayAfter, countsAfter, blockBad, pageFull, findings, statusOf, outputByte}
@@ -36,7 +36,7 @@ use Rattle.thm_stations.proofs.Isolation.{isolation, deletion}
 
 -- every definition of the step is computed
 computes : Unit {0}
-unfolding splice part andBytes orElse badRecord rowOf firstOf secondRow secondOf classOf offered bitOf bitsOf fieldWidth columnFrom rowFrom lunOf pageOf blockOf lunExists blockExists rowExists pageSize inLimits sized unknown beforeReset fits misplaced outOfRange lunWorks othersBusy lineLow pastEnd notOffered notWorking lineHeld rules verdict sequenceAfter outputAfter lunsAfter selectedAfter clearAfter highAfter targetAfter targetRefused workOf recordSound usable blockIndex pageIndex registersAfter arrayAfter countsAfter blockBad pageFull findings statusOf outputByte replyOf worked acceptedBy accepted byVerdict steady stepOf those serial after log end
+unfolding splice part andBytes orElse badRecord rowOf firstOf secondRow secondOf classOf offered bitOf bitsOf fieldWidth columnFrom rowFrom lunOf pageOf blockOf lunExists blockExists rowExists pageSize inLimits sized unknown beforeReset fits misplaced outOfRange lunWorks noCopyback othersBusy lineLow pastEnd notOffered notWorking lineHeld rules verdict sequenceAfter outputAfter lunsAfter selectedAfter clearAfter highAfter targetAfter targetRefused workOf recordSound usable blockIndex pageIndex registersAfter arrayAfter countsAfter blockBad pageFull findings statusOf outputByte replyOf worked acceptedBy accepted byVerdict steady stepOf those serial after log end
 computes = tt
 
 -- a run gets to the start

@@ -7,10 +7,10 @@ use Prim.Native.Nat.{ℕ}
 use lib.ListN.{length, length-set}
 use lib.Dec.{eqb}
 use Rattle.target.specs.Pick.{pick}
-use Rattle.target.specs.Commands.{secondRow}
+use Rattle.target.specs.Commands.{secondRow, closesCopyback}
 use Rattle.target.specs.Events.{isReset}
 use Rattle.target.specs.Luns.{allReady}
-use Rattle.target.specs.Views.{ending}
+use Rattle.target.specs.Views.{completed, ending}
 use Rattle.target.specs.declared.Event.{Event}
 use Rattle.target.specs.declared.Findings.{Findings}
 use Rattle.target.specs.declared.Geometry.{Geometry}
@@ -19,12 +19,14 @@ use Rattle.target.specs.declared.Reply.the-variants as reply
 use Rattle.target.specs.declared.Refusal.the-variants as refusal
 use Rattle.target.specs.declared.Sequence.{Sequence}
 use Rattle.target.specs.declared.Target.{Target}
+use Rattle.target.specs.declared.views.Given.{Given}
+use Rattle.target.specs.declared.views.Given.the-variants as given
 use Rattle.target.specs.declared.views.Ender.{Ender}
 use Rattle.target.specs.declared.views.Ender.the-variants as ender
 use Rattle.target.specs.declared.Verdict.{Verdict}
 use Rattle.target.specs.declared.Verdict.the-variants as verdicts
 use Rattle.rules.specs.Rules.{verdict}
-use Rattle.effects.specs.Effects.{begun, endedLuns, finished, lunsAfter, targetAfter, targetRefused}
+use Rattle.effects.specs.Effects.{begun, endCloses, endedLuns, addressedLuns, finished, lunsAfter, targetAfter, targetRefused}
 use Rattle.power.specs.Power.{poweredOf}
 use Rattle.step.specs.Usable.{usable}
 use Rattle.step.specs.Step.{Buffers, steady, byVerdict, accepted, acceptedBy, stepOf, State}
@@ -40,17 +42,26 @@ ended-count : (g : Geometry) (luns : List Lun) (x : Ender) (found : Findings)
     → length (endedLuns g luns x found) ≡ length luns
 ended-count g luns ender.Nothing found = refl
 ended-count g luns (ender.By k) found =
-    by-pick (λ (y : List Lun). length y ≡ length luns) (secondRow (k .second) .starts) (begun g luns (k .row) (not (found .proceeds))) luns (λ _. length-set luns _ _) (λ _. refl)
+    by-pick (λ (y : List Lun). length y ≡ length luns) (secondRow (k .second) .starts) (begun g luns (k .row) (not (found .proceeds)) (secondRow (k .second) .opens) (endCloses k)) luns (λ _. length-set luns _ _) (λ _. refl)
+
+addressed-count : (g : Geometry) (luns : List Lun) (x : Given) → length (addressedLuns g luns x) ≡ length luns
+addressed-count g luns given.Nothing = refl
+addressed-count g luns (given.Column k) = refl
+addressed-count g luns (given.Row k) =
+    by-pick (λ (y : List Lun). length y ≡ length luns) (closesCopyback (k .first)) _ luns (λ _. length-set luns _ _) (λ _. refl)
+addressed-count g luns (given.Single k) = refl
 
 luns-four : (g : Geometry) (luns : List Lun) (s : Sequence) (e : Event) (found : Findings) → length luns ≡ 4
     → length (lunsAfter g luns s e found) ≡ 4
 unfolding lunsAfter
 luns-four g luns s e found h =
-    let l1 = pick (eqb (e .kind) 4) (finished luns (e .value)) luns in
+    let l2 = pick (eqb (e .kind) 4) (finished luns (e .value)) luns in
+    let l1 = pick (eqb (e .kind) 1) (addressedLuns g luns (completed s (e .value))) l2 in
     let l0 = pick (eqb (e .kind) 0) (endedLuns g luns (ending s (e .value)) found) l1 in
     by-pick (λ (x : List Lun). length x ≡ 4) (isReset e) allReady l0 (λ _. refl)
     (λ _. by-pick (λ (x : List Lun). length x ≡ 4) (eqb (e .kind) 0) (endedLuns g luns (ending s (e .value)) found) l1 (λ _. ended-count g luns (ending s (e .value)) found ∙ h)
-    (λ _. by-pick (λ (x : List Lun). length x ≡ 4) (eqb (e .kind) 4) (finished luns (e .value)) luns (λ _. length-set luns _ _ ∙ h) (λ _. h)))
+    (λ _. by-pick (λ (x : List Lun). length x ≡ 4) (eqb (e .kind) 1) (addressedLuns g luns (completed s (e .value))) l2 (λ _. addressed-count g luns (completed s (e .value)) ∙ h)
+    (λ _. by-pick (λ (x : List Lun). length x ≡ 4) (eqb (e .kind) 4) (finished luns (e .value)) luns (λ _. length-set luns _ _ ∙ h) (λ _. h))))
 
 module _ (t : Target) (e : Event) (page : List ℕ) (b : Buffers) (flags : List ℕ) (h : length (t .luns) ≡ 4) where
   verdict-four : (v : Verdict) → length (byVerdict v t e page b flags .target .luns) ≡ 4

@@ -1,20 +1,16 @@
 -- "Identification", as specs/Steps.antt states it.
 -- Assumes nothing.
-use mathlib.Core.Path.{_≡_, refl, sym, ap, _∙_}
+use mathlib.Core.Path.{_≡_, refl, ap, _∙_}
 use mathlib.Core.Bool.{Bool, true, false, _&&_, _||_, not}
 use mathlib.Core.List.{List}
-use Prim.Native.Nat.{ℕ, _<_}
-use lib.ListN.{length}
-use lib.Dec.{eqb, leb}
+use Prim.Native.Nat.{ℕ}
+use lib.Dec.{eqb}
 use borrow.Author.Tests.{lt-leb}
 use Rattle.target.specs.Pick.{pick, orElse}
 use Rattle.target.specs.Commands.{rowOf}
 use Rattle.target.specs.Words.{hasFeature}
-use Rattle.target.specs.declared.Event.{Event}
 use Rattle.target.specs.declared.Target.{Target}
-use Rattle.target.specs.declared.First.{First}
 use Rattle.target.specs.declared.First.the-variants as first
-use Rattle.target.specs.declared.Sequence.{Sequence}
 use Rattle.target.specs.declared.Sequence.the-variants.{Single, Setting}
 use Rattle.target.specs.declared.Output.{Output}
 use Rattle.target.specs.declared.Output.the-variants as output
@@ -27,9 +23,9 @@ use Rattle.rules.specs.Rules.{verdict, beforeReset, misplaced, fits, outOfRange
 use Rattle.rules.proofs.ByKind.{address-verdict, in-verdict}
 use Rattle.effects.specs.Effects.{workOf, targetAfter, lunsAfter, sequenceAfter, outputAfter, clearAfter}
 use Rattle.step.specs.Buffers.{findings, registersAfter, arrayAfter, countsAfter, outputByte}
-use Rattle.step.specs.Step.{Buffers, Outcome, replyOf, worked, acceptedBy, accepted, stepOf}
-use Rattle.thm_steps.specs.Steps.{address, dataIn, dataOut, Taken, RefusedWith, Shows, Gives, setting, Identification, Live}
-use Rattle.thm_steps.proofs.Taken.{put, seen-at, seen-out, accepts, refuses, left-at}
+use Rattle.step.specs.Step.{Buffers, Outcome, replyOf, worked, acceptedBy, accepted}
+use Rattle.thm_steps.specs.Steps.{address, dataIn, dataOut, RefusedWith, Gives, setting, Identification, Live}
+use Rattle.thm_steps.proofs.Taken.{put, seen-out, verdict-at, accepts, refuses, left-at}
 use Rattle.thm_steps.proofs.Status.{none-out, given-out}
 
 -- EEh and EFh know address 01h only
@@ -63,10 +59,6 @@ module _ (t : Target) (v : ℕ) where
   offers-not = refl
 
 module _ (t : Target) (params : List ℕ) (b : Buffers) (flags : List ℕ) where
-  -- a place reached by EFh, and the verdict there
-  verdict-at : (s : Sequence) (e : Event) → t .decoder .sequence ≡ s → Live t params b flags → verdict t e ≡ verdict (put t true s (t .decoder .output)) e
-  verdict-at s e h live = ap (λ (x : Target). verdict x e) (seen-at t s (live .seen) h)
-
   given : (o n : Output) (v : ℕ) → t .decoder .output ≡ o → Live t params b flags → hasOutput o ≡ true → outputWorks (t .luns) o ≡ false → outputEnded (t .geometry) o ≡ false
       → accepted (put t true (t .decoder .sequence) o) dataOut params b flags .reply ≡ reply.Byte v
       → accepted (put t true (t .decoder .sequence) o) dataOut params b flags .target .decoder .output ≡ n
@@ -107,9 +99,9 @@ module _ (t : Target) (params : List ℕ) (b : Buffers) (flags : List ℕ) where
     get = λ s h.
         let p = left-at t (address 0x01) params b flags (Single first.GetFeatures) s h in
         record { decoder = ap (λ (o : Outcome). o .target .decoder) p; luns = ap (λ (o : Outcome). o .target .luns) p; buffers = ap (λ (o : Outcome). o .buffers) p };
-    get-only = λ v h s live. refuses t (address v) params b flags OutOfRange 4 refl (live .passes) (verdict-at (Single first.GetFeatures) (address v) s live ∙ only-ee t v h);
+    get-only = λ v h s live. refuses t (address v) params b flags OutOfRange 4 refl (live .passes) (verdict-at t params b flags (Single first.GetFeatures) (address v) s live ∙ only-ee t v h);
     set-bytes = λ s h. ap (λ (o : Outcome). o .target .decoder .sequence) (left-at t (address 0x01) params b flags (Single first.SetFeatures) s h);
-    set-only = λ v h s live. refuses t (address v) params b flags OutOfRange 4 refl (live .passes) (verdict-at (Single first.SetFeatures) (address v) s live ∙ only-ef t v h);
+    set-only = λ v h s live. refuses t (address v) params b flags OutOfRange 4 refl (live .passes) (verdict-at t params b flags (Single first.SetFeatures) (address v) s live ∙ only-ef t v h);
     p1-out = λ s live. given (output.Feature 0) (output.Feature 1) (pick (t .clear) 0x40 0) s live refl refl refl refl refl refl;
     p2-out = λ s live. given (output.Feature 1) (output.Feature 2) 0 s live refl refl refl refl refl refl;
     p3-out = λ s live. given (output.Feature 2) (output.Feature 3) 0 s live refl refl refl refl refl refl;
@@ -117,13 +109,13 @@ module _ (t : Target) (params : List ℕ) (b : Buffers) (flags : List ℕ) where
     four-out = λ s live. ended (output.Feature 4) s live refl refl refl;
     p1-offered = λ v value s live h.
         ap (λ (o : Outcome). o .reply) (accepts t (dataIn v) params b flags (live .passes)
-        (verdict-at (setting 0 value) (dataIn v) s live ∙ first-offer t v value ∙ ap (byOffer t v) h ∙ offers t v));
+        (verdict-at t params b flags (setting 0 value) (dataIn v) s live ∙ first-offer t v value ∙ ap (byOffer t v) h ∙ offers t v));
     p1-else = λ v value s live h.
         refuses t (dataIn v) params b flags NotOffered 9 refl (live .passes)
-        (verdict-at (setting 0 value) (dataIn v) s live ∙ first-offer t v value ∙ ap (byOffer t v) h ∙ offers-not t v);
+        (verdict-at t params b flags (setting 0 value) (dataIn v) s live ∙ first-offer t v value ∙ ap (byOffer t v) h ∙ offers-not t v);
     rest-zero = λ got value v h s live k.
         refuses t (dataIn v) params b flags NotOffered 9 refl (live .passes)
-        (verdict-at (setting got value) (dataIn v) s live ∙ rest-offer t v got value h k);
+        (verdict-at t params b flags (setting got value) (dataIn v) s live ∙ rest-offer t v got value h k);
     first-byte = λ v value s h.
         let p = left-at t (dataIn v) params b flags (setting 0 value) s h in
         (ap (λ (o : Outcome). o .target .decoder .sequence) p, ap (λ (o : Outcome). o .target .clear) p);

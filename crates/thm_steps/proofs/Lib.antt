@@ -4,5 +4,6 @@ pub mod First
 pub mod Reset
 pub mod Read
 pub mod Program
+pub mod Copyback
 pub mod Status
 pub mod Identification

@@ -1,28 +1,28 @@
 -- "Program" and "Erase", as specs/Steps.antt states them.
 -- Assumes nothing.
 use mathlib.Core.Path.{_≡_, refl, sym, ap, subst, _∙_}
-use mathlib.Core.Bool.{Bool, true, false, _&&_, _||_, not}
+use mathlib.Core.Bool.{Bool, true, false, _||_, not}
 use mathlib.Core.List.{List}
 use Prim.Native.Nat.{ℕ, _+_, _*_, _≤_, _<_}
 use lib.ListN.{length, set, getD, drop}
 use lib.Seq.{getD-take, getD-drop}
 use lib.Bits.{bitAnd}
-use lib.Dec.{eqb}
 use Rattle.slices.specs.Cells.{part, splice, andBytes}
 use Rattle.slices.proofs.Splice.{length-part, part-splice}
 use Rattle.slices.proofs.Anded.{length-and, getD-and}
 use Rattle.target.specs.Pick.{pick, orElse}
 use Rattle.target.specs.Sizes.{pageSize}
 use Rattle.target.specs.Address.{rowFrom, lunOf}
+use Rattle.target.specs.Luns.{copybackAt}
 use Rattle.target.specs.Commands.{rowOf, firstOf, secondOf, secondRow, classOf, offered}
 use Rattle.target.specs.declared.Column.{Column}
 use Rattle.target.specs.declared.Row.{Row}
 use Rattle.target.specs.declared.Lun.{Lun}
 use Rattle.target.specs.declared.Event.{Event}
 use Rattle.target.specs.declared.Target.{Target}
+use Rattle.target.specs.declared.First.{First}
 use Rattle.target.specs.declared.First.the-variants as first
 use Rattle.target.specs.declared.Sequence.{Sequence}
-use Rattle.target.specs.declared.Sequence.the-variants.{Moving}
 use Rattle.target.specs.declared.Work.{Work}
 use Rattle.target.specs.declared.Work.the-variants as work
 use Rattle.target.specs.declared.Verdict.the-variants as verdicts
@@ -33,10 +33,10 @@ use Rattle.step.specs.Usable.{sequenceSound}
 use Rattle.step.proofs.Sound.{sound, passes, filling-row}
 use Rattle.step.proofs.Places.{page-bytes-end, register-end}
 use Rattle.step.specs.Buffers.{pageIndex, blockBad, pageFull, findings, registersAfter, arrayAfter, countsAfter}
-use Rattle.step.specs.Step.{Buffers, Outcome, replyOf, worked, acceptedBy, accepted, stepOf}
-use Rattle.thm_steps.specs.Steps.{command, address, dataIn, due, lastRow, filling, working, Taken, Program, Erase, Live}
-use Rattle.thm_steps.proofs.Places.{place-10, place-d0}
-use Rattle.thm_steps.proofs.Taken.{taken, command-fits, put, seen-at, accepts, left-at, left-first}
+use Rattle.step.specs.Step.{Buffers, Outcome, replyOf, worked, acceptedBy, accepted}
+use Rattle.thm_steps.specs.Steps.{command, address, dataIn, due, lastRow, filling, moving, working, stillOpen, Taken, Program, Erase}
+use Rattle.thm_steps.proofs.Places.{place-10, place-85, place-d0}
+use Rattle.thm_steps.proofs.Taken.{taken, command-fits, put, verdict-at, accepts, left-at, left-first, and-none}
 
 -- a byte of a part
 part-byte : (xs : List ℕ) (at k i : ℕ) → i < k → getD (part xs at k) i 0 ≡ getD xs (at + i) 0
@@ -62,9 +62,9 @@ anded-byte xs ys at from k i fits fitsʳ low =
     ∙ ap (λ (n : ℕ). bitAnd (getD xs (at + i) 0) n) (part-byte ys from k i low)
 
 -- the verdict on 10h where data may come, with the line high
-fits-10 : (t : Target) (r : Row) (c : Column) → t .high ≡ true → verdict (put t true (filling r c) (t .decoder .output)) (command 0x10) ≡ verdicts.Accepted
+fits-10 : (t : Target) (f : First) (r : Row) (c : Column) → t .high ≡ true → verdict (put t true (filling f r c) (t .decoder .output)) (command 0x10) ≡ verdicts.Accepted
 unfolding orElse rowOf firstOf secondOf secondRow classOf offered beforeReset unknown misplaced fits othersBusy lineLow
-fits-10 t r c h = command-verdict (put t true (filling r c) (t .decoder .output)) 0x10 ∙ (rw (h))
+fits-10 t f r c h = command-verdict (put t true (filling f r c) (t .decoder .output)) 0x10 ∙ (rw (h))
 
 neither : (a b : Bool) → a ≡ false → b ≡ false → (a || b) ≡ false
 neither a b h k = rw (h, k)
@@ -75,20 +75,20 @@ module _ (t : Target) (params : List ℕ) (b : Buffers) (flags : List ℕ) where
   either w x = worked (t .geometry) (pick x w work.Nothing) b
 
   -- the LUNs where the row's begins to work
-  abbrev marked : Row → Bool → List Lun
-  marked r x = set (t .luns) (lunOf (t .geometry) r) (working (not (not x)))
+  abbrev marked : Row → Bool → Bool → List Lun
+  marked r copyback x = set (t .luns) (lunOf (t .geometry) r) (working (not (not x)) copyback)
 
   -- an event that is accepted finds a sound place
   sound-at : (e : Event) → Taken t params b flags e → sequenceSound (t .geometry) (t .decoder .sequence) ≡ true
   sound-at e h = sound t (passes t params (b .array) (b .registers) (b .counts) flags (taken t e params b flags h .0) .record-sound) .sequence
 
-  anded : (r : Row) (c : Column) → t .decoder .sequence ≡ filling r c → Taken t params b flags (command 0x10) → (i : ℕ) → i < pageSize (t .geometry)
+  anded : (f : First) (r : Row) (c : Column) → t .decoder .sequence ≡ filling f r c → Taken t params b flags (command 0x10) → (i : ℕ) → i < pageSize (t .geometry)
       → getD (splice (b .array) (pageIndex (t .geometry) r * pageSize (t .geometry)) (pageSize (t .geometry)) (andBytes (part (b .array) (pageIndex (t .geometry) r * pageSize (t .geometry)) (pageSize (t .geometry))) (part (b .registers) (lunOf (t .geometry) r * pageSize (t .geometry)) (pageSize (t .geometry))))) (pageIndex (t .geometry) r * pageSize (t .geometry) + i) 0
       ≡ bitAnd (getD (b .array) (pageIndex (t .geometry) r * pageSize (t .geometry) + i) 0) (getD (b .registers) (lunOf (t .geometry) r * pageSize (t .geometry) + i) 0)
-  anded r c s h i low =
+  anded f r c s h i low =
       let g = t .geometry in
       let sizes = passes t params (b .array) (b .registers) (b .counts) flags (taken t (command 0x10) params b flags h .0) .sizes in
-      let there = filling-row g (record { row = r; at = c }) (subst (λ (x : Sequence). sequenceSound g x ≡ true) s (sound-at (command 0x10) h)) in
+      let there = filling-row g (record { first = f; row = r; at = c }) (subst (λ (x : Sequence). sequenceSound g x ≡ true) s (sound-at (command 0x10) h)) in
       anded-byte (b .array) (b .registers) (pageIndex g r * pageSize g) (lunOf g r * pageSize g) (pageSize g) i
       (subst (λ (n : ℕ). pageIndex g r * pageSize g + pageSize g ≤ n) (sym (sizes .array-size)) (page-bytes-end g r there))
       (subst (λ (n : ℕ). lunOf g r * pageSize g + pageSize g ≤ n) (sym (sizes .registers-size)) (register-end g r there))
@@ -97,11 +97,12 @@ module _ (t : Target) (params : List ℕ) (b : Buffers) (flags : List ℕ) where
   pub program : Program t params b flags
   unfolding accepted acceptedBy replyOf worked workOf targetAfter lunsAfter sequenceAfter findings registersAfter arrayAfter countsAfter rowOf firstOf secondOf secondRow
   program = record {
+    only-moves = λ h inside. place-85 (t .decoder .sequence) inside (command-fits t params b flags 0x85 refl h);
     only-here = λ h. place-10 (t .geometry) (t .decoder .sequence) (sound-at (command 0x10) h) (command-fits t params b flags 0x10 refl h);
-    each-byte = λ r c s h good room i low.
-        ap (λ (o : Outcome). getD (o .buffers .array) (pageIndex (t .geometry) r * pageSize (t .geometry) + i) 0) (left-at t (command 0x10) params b flags (filling r c) s h)
+    each-byte = λ f r c s h good room i low.
+        ap (λ (o : Outcome). getD (o .buffers .array) (pageIndex (t .geometry) r * pageSize (t .geometry) + i) 0) (left-at t (command 0x10) params b flags (filling f r c) s h)
         ∙ ap (λ (x : Bool). getD (either (work.Program r) (not x) .array) (pageIndex (t .geometry) r * pageSize (t .geometry) + i) 0) (neither (blockBad (t .geometry) r flags) (pageFull (t .geometry) r (b .counts)) good room)
-        ∙ anded r c s h i low;
+        ∙ anded f r c s h i low;
     clears-all = λ off h.
         ap (λ (o : Outcome). o .buffers) (left-first t params b flags 0x80 refl refl h)
         ∙ ap (λ (x : Bool). either work.ClearAll (not x)) off;
@@ -115,31 +116,31 @@ module _ (t : Target) (params : List ℕ) (b : Buffers) (flags : List ℕ) where
         ap (λ (o : Outcome). o .buffers) (left-first t params b flags 0x80 refl refl h)
         ∙ ap (λ (x : Bool). either work.ClearAll (not x)) on;
     begins = λ c low mid v s h. ap (λ (o : Outcome). o .target .decoder .sequence) (left-at t (address v) params b flags (lastRow first.Program c low mid) s h);
-    goes-in = λ r c v s h. ap (λ (o : Outcome). o .buffers) (left-at t (dataIn v) params b flags (filling r c) s h);
-    upward = λ r c v s h. ap (λ (o : Outcome). o .target .decoder .sequence) (left-at t (dataIn v) params b flags (filling r c) s h);
-    moves = λ r c s h.
-        let p = left-at t (command 0x85) params b flags (filling r c) s h in
+    goes-in = λ f r c v s h. ap (λ (o : Outcome). o .buffers) (left-at t (dataIn v) params b flags (filling f r c) s h);
+    upward = λ f r c v s h. ap (λ (o : Outcome). o .target .decoder .sequence) (left-at t (dataIn v) params b flags (filling f r c) s h);
+    moves = λ f r c s h.
+        let p = left-at t (command 0x85) params b flags (filling f r c) s h in
         (ap (λ (o : Outcome). o .target .decoder .sequence) p, ap (λ (o : Outcome). o .buffers) p);
-    moves-low = λ r v s h.
-        let p = left-at t (address v) params b flags (Moving (record { row = r; got = 0; low = 0 })) s h in
+    moves-low = λ f r v s h.
+        let p = left-at t (address v) params b flags (moving f r 0 0) s h in
         (ap (λ (o : Outcome). o .target .decoder .sequence) p, ap (λ (o : Outcome). o .buffers) p);
-    moves-high = λ r low v s h.
-        let p = left-at t (address v) params b flags (Moving (record { row = r; got = 1; low = low })) s h in
+    moves-high = λ f r low v s h.
+        let p = left-at t (address v) params b flags (moving f r 1 low) s h in
         (ap (λ (o : Outcome). o .target .decoder .sequence) p, ap (λ (o : Outcome). o .buffers) p);
-    programs = λ r c s h good room.
-        ap (λ (o : Outcome). o .buffers) (left-at t (command 0x10) params b flags (filling r c) s h)
+    programs = λ f r c s h good room.
+        ap (λ (o : Outcome). o .buffers) (left-at t (command 0x10) params b flags (filling f r c) s h)
         ∙ ap (λ (x : Bool). either (work.Program r) (not x)) (neither (blockBad (t .geometry) r flags) (pageFull (t .geometry) r (b .counts)) good room);
-    starts = λ r c s h good room.
-        ap (λ (o : Outcome). o .target .luns) (left-at t (command 0x10) params b flags (filling r c) s h)
-        ∙ ap (marked r) (neither (blockBad (t .geometry) r flags) (pageFull (t .geometry) r (b .counts)) good room);
-    stays = λ r c s h bad.
-        let p = left-at t (command 0x10) params b flags (filling r c) s h in (
+    starts = λ f r c s h good room.
+        ap (λ (o : Outcome). o .target .luns) (left-at t (command 0x10) params b flags (filling f r c) s h)
+        ∙ ap (marked r (stillOpen t params b flags f r)) (neither (blockBad (t .geometry) r flags) (pageFull (t .geometry) r (b .counts)) good room);
+    stays = λ f r c s h bad.
+        let p = left-at t (command 0x10) params b flags (filling f r c) s h in (
           ap (λ (o : Outcome). o .buffers) p ∙ ap (λ (x : Bool). either (work.Program r) (not x)) bad,
-          ap (λ (o : Outcome). o .target .luns) p ∙ ap (marked r) bad,
+          ap (λ (o : Outcome). o .target .luns) p ∙ ap (marked r (stillOpen t params b flags f r)) bad,
         );
-    no-data = λ r c s live high.
-        let is = seen-at t (filling r c) (live .seen) s in
-        ap (λ (o : Outcome). o .reply) (accepts t (command 0x10) params b flags (live .passes) (ap (λ (x : Target). verdict x (command 0x10)) is ∙ fits-10 t r c high));
+    no-data = λ f r c s live high.
+        ap (λ (o : Outcome). o .reply)
+        (accepts t (command 0x10) params b flags (live .passes) (verdict-at t params b flags (filling f r c) (command 0x10) s live ∙ fits-10 t f r c high));
   }
 
   pub erase : Erase t params b flags
@@ -149,11 +150,11 @@ module _ (t : Target) (params : List ℕ) (b : Buffers) (flags : List ℕ) where
     erases = λ c r s h good.
         let p = left-at t (command 0xd0) params b flags (due first.Erase c r) s h in (
           ap (λ (o : Outcome). o .buffers) p ∙ ap (λ (x : Bool). either (work.Erase r) (not x)) good,
-          ap (λ (o : Outcome). o .target .luns) p ∙ ap (marked r) good,
+          ap (λ (o : Outcome). o .target .luns) p ∙ ap (marked r _) good ∙ ap (λ (x : Bool). marked r x false) (and-none (copybackAt (t .luns) (lunOf (t .geometry) r))),
         );
     stays = λ c r s h bad.
         let p = left-at t (command 0xd0) params b flags (due first.Erase c r) s h in (
           ap (λ (o : Outcome). o .buffers) p ∙ ap (λ (x : Bool). either (work.Erase r) (not x)) bad,
-          ap (λ (o : Outcome). o .target .luns) p ∙ ap (marked r) bad,
+          ap (λ (o : Outcome). o .target .luns) p ∙ ap (marked r _) bad ∙ ap (λ (x : Bool). marked r x true) (and-none (copybackAt (t .luns) (lunOf (t .geometry) r))),
         );
   }

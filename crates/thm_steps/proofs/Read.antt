@@ -1,36 +1,30 @@
 -- "Read", as specs/Steps.antt states it.
 -- Assumes nothing.
-use mathlib.Core.Path.{_≡_, refl, sym, ap, _∙_}
-use mathlib.Core.Bool.{Bool, true, false, _&&_, _||_, not, false≢true}
+use mathlib.Core.Path.{_≡_, refl, ap, _∙_}
+use mathlib.Core.Bool.{Bool, true, false}
 use mathlib.Core.List.{List}
 use Prim.Native.Nat.{ℕ, _<_}
-use lib.ListN.{length}
-use lib.Dec.{eqb, leb}
+use lib.ListN.{set}
 use borrow.Author.Tests.{lt-leb}
-use Rattle.target.specs.Pick.{pick, orElse}
+use Rattle.target.specs.Pick.{orElse}
 use Rattle.target.specs.Address.{columnFrom, rowFrom, lunOf, lunExists}
-use Rattle.target.specs.Commands.{rowOf, firstOf, secondOf, secondRow, classOf, offered}
-use Rattle.target.specs.Luns.{works}
+use Rattle.target.specs.Commands.{rowOf, secondOf, secondRow}
+use Rattle.target.specs.Luns.{works, copybackAt}
 use Rattle.target.specs.Sizes.{pageSize}
 use Rattle.target.specs.declared.Column.{Column}
-use Rattle.target.specs.declared.Row.{Row}
-use Rattle.target.specs.declared.Event.{Event}
 use Rattle.target.specs.declared.Target.{Target}
-use Rattle.target.specs.declared.First.{First}
 use Rattle.target.specs.declared.First.the-variants as first
-use Rattle.target.specs.declared.Sequence.{Sequence}
 use Rattle.target.specs.declared.Sequence.the-variants.{Columns}
 use Rattle.target.specs.declared.Output.the-variants as output
 use Rattle.target.specs.declared.Refusal.the-variants.{LunWorks}
-use Rattle.target.specs.declared.Verdict.{Verdict}
 use Rattle.target.specs.declared.Verdict.the-variants as verdicts
-use Rattle.rules.specs.Rules.{verdict, beforeReset, misplaced, fits, outOfRange, lunWorks}
+use Rattle.rules.specs.Rules.{verdict, beforeReset, misplaced, fits, outOfRange, lunWorks, noCopyback}
 use Rattle.rules.proofs.ByKind.{address-verdict}
 use Rattle.effects.specs.Effects.{workOf, targetAfter, lunsAfter, sequenceAfter, outputAfter, selectedAfter}
 use Rattle.step.specs.Buffers.{findings, registersAfter, arrayAfter, countsAfter, outputByte}
-use Rattle.step.specs.Step.{Buffers, Outcome, replyOf, worked, acceptedBy, accepted, stepOf}
-use Rattle.thm_steps.specs.Steps.{command, address, dataOut, due, lastRow, Read, Live}
-use Rattle.thm_steps.proofs.Taken.{command-fits, put, at-place, seen-at, accepts, refuses, left-by, left-at, left-out}
+use Rattle.step.specs.Step.{Buffers, Outcome, replyOf, worked, acceptedBy, accepted}
+use Rattle.thm_steps.specs.Steps.{command, address, dataOut, due, lastRow, working, Read}
+use Rattle.thm_steps.proofs.Taken.{command-fits, put, verdict-at, accepts, refuses, left-at, left-out, and-none}
 use Rattle.thm_steps.proofs.Places.{place-30}
 use Rattle.thm_steps.proofs.Reset.{reset}
 
@@ -49,7 +43,7 @@ works-05 t low v h k =
     ∙ (rw (lt-leb (pageSize (t .geometry)) (columnFrom low v .0) h, k))
 
 early-05 : (t : Target) (v : ℕ) → verdict (put t true (Columns (record { first = first.ChangeColumn; got = 0; low = 0 })) (t .decoder .output)) (address v) ≡ verdicts.Accepted
-unfolding orElse rowOf beforeReset misplaced fits outOfRange lunWorks
+unfolding orElse rowOf beforeReset misplaced fits outOfRange lunWorks noCopyback
 early-05 t v = address-verdict (put t true (Columns (record { first = first.ChangeColumn; got = 0; low = 0 })) (t .decoder .output)) v
 
 module _ (t : Target) (params : List ℕ) (b : Buffers) (flags : List ℕ) where
@@ -58,14 +52,16 @@ module _ (t : Target) (params : List ℕ) (b : Buffers) (flags : List ℕ) where
   read = record {
     only-here = λ h. place-30 (t .decoder .sequence) (command-fits t params b flags 0x30 refl h);
     copies = λ c r s h. ap (λ (o : Outcome). o .buffers) (left-at t (command 0x30) params b flags (due first.Read c r) s h);
-    starts = λ c r s h. ap (λ (o : Outcome). o .target .luns) (left-at t (command 0x30) params b flags (due first.Read c r) s h);
+    starts = λ c r s h.
+        ap (λ (o : Outcome). o .target .luns) (left-at t (command 0x30) params b flags (due first.Read c r) s h)
+        ∙ ap (λ (x : Bool). set (t .luns) (lunOf (t .geometry) r) (working false x)) (and-none (copybackAt (t .luns) (lunOf (t .geometry) r)));
     puts-out = λ c r s h. ap (λ (o : Outcome). o .target .decoder) (left-at t (command 0x30) params b flags (due first.Read c r) s h);
     byte = λ l c s h.
         let p = left-out t dataOut params b flags (output.Register l c) s h in
         (ap (λ (o : Outcome). o .reply) p, ap (λ (o : Outcome). o .target .decoder .output) p);
     needs-ready = λ c low mid v s live h k.
-        let is = seen-at t (lastRow first.ChangeColumnEnhanced c low mid) (live .seen) s in
-        refuses t (address v) params b flags LunWorks 5 refl (live .passes) (ap (λ (x : Target). verdict x (address v)) is ∙ works-06 t c low mid v h k);
+        refuses t (address v) params b flags LunWorks 5 refl (live .passes)
+        (verdict-at t params b flags (lastRow first.ChangeColumnEnhanced c low mid) (address v) s live ∙ works-06 t c low mid v h k);
     there = λ c r s h.
         let p = left-at t (command 0xe0) params b flags (due first.ChangeColumnEnhanced c r) s h in
         (ap (λ (o : Outcome). o .target .decoder) p, ap (λ (o : Outcome). o .target .luns) p, ap (λ (o : Outcome). o .buffers) p);
@@ -73,11 +69,11 @@ module _ (t : Target) (params : List ℕ) (b : Buffers) (flags : List ℕ) where
         let p = left-at t (command 0xe0) params b flags (due first.ChangeColumn c r) s h in
         (ap (λ (o : Outcome). o .target .decoder) p, ap (λ (o : Outcome). o .target .luns) p, ap (λ (o : Outcome). o .buffers) p);
     busy = λ low v s live h k.
-        let is = seen-at t (Columns (record { first = first.ChangeColumn; got = 1; low = low })) (live .seen) s in
-        refuses t (address v) params b flags LunWorks 5 refl (live .passes) (ap (λ (x : Target). verdict x (address v)) is ∙ works-05 t low v h k);
+        refuses t (address v) params b flags LunWorks 5 refl (live .passes)
+        (verdict-at t params b flags (Columns (record { first = first.ChangeColumn; got = 1; low = low })) (address v) s live ∙ works-05 t low v h k);
     not-before = λ v s live.
-        let is = seen-at t (Columns (record { first = first.ChangeColumn; got = 0; low = 0 })) (live .seen) s in
-        ap (λ (o : Outcome). o .reply) (accepts t (address v) params b flags (live .passes) (ap (λ (x : Target). verdict x (address v)) is ∙ early-05 t v));
+        ap (λ (o : Outcome). o .reply) (accepts t (address v) params b flags (live .passes)
+        (verdict-at t params b flags (Columns (record { first = first.ChangeColumn; got = 0; low = 0 })) (address v) s live ∙ early-05 t v));
     selects = λ f c low mid v s h. ap (λ (o : Outcome). o .target .selected) (left-at t (address v) params b flags (lastRow f c low mid) s h);
     selects-first = λ ok. ap (λ (o : Outcome). o .target .selected) (reset t params b flags ok);
   }

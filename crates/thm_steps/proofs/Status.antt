@@ -1,17 +1,19 @@
 -- "Work" and "Status", as specs/Steps.antt states them.
 -- Assumes nothing.
-use mathlib.Core.Path.{_≡_, refl, sym, ap, _∙_}
-use mathlib.Core.Bool.{Bool, true, false, _&&_, _||_, not, false≢true}
-use mathlib.Core.List.{List}
-use Prim.Native.Nat.{ℕ}
-use lib.ListN.{length}
+use mathlib.Core.Path.{_≡_, refl, sym, ap, subst, _∙_}
+use mathlib.Core.Bool.{Bool, true, false, _||_, false≢true}
+use mathlib.Core.List.{List, [], _∷_}
+use Prim.Native.Nat.{ℕ, zero, suc}
+use lib.ListN.{set}
 use lib.Dec.{eqb}
+use borrow.Author.Tests.{eqb-true}
 use Rattle.target.specs.Pick.{pick, orElse}
 use Rattle.target.specs.Events.{isReset, badRecord}
-use Rattle.target.specs.Luns.{allReady}
+use Rattle.target.specs.Address.{rowFrom, lunOf}
+use Rattle.target.specs.Luns.{lunAt, lunClosed, works, failed}
 use Rattle.target.specs.Place.{hasOutput}
-use Rattle.target.specs.Views.{ending, endedWith}
-use Rattle.target.specs.Commands.{rowOf, firstOf, secondOf, secondRow, endOf, takesRow}
+use Rattle.target.specs.Views.{completed, ending, endedWith}
+use Rattle.target.specs.Commands.{rowOf, firstOf, secondOf, secondRow, closesCopyback}
 use Rattle.target.specs.declared.Column.{Column}
 use Rattle.target.specs.declared.Row.{Row}
 use Rattle.target.specs.declared.Lun.{Lun}
@@ -19,73 +21,125 @@ use Rattle.target.specs.declared.Geometry.{Geometry}
 use Rattle.target.specs.declared.Event.{Event}
 use Rattle.target.specs.declared.Target.{Target}
 use Rattle.target.specs.declared.Findings.{Findings}
+use Rattle.target.specs.declared.First.{First}
 use Rattle.target.specs.declared.First.the-variants as first
-use Rattle.target.specs.declared.Second.the-variants.{StartRead, StartOutput, StartProgram, StartErase, Move}
+use Rattle.target.specs.declared.Second.the-variants.{StartRead, StartOutput, StartProgram, StartErase, Move, StartCopyback}
 use Rattle.target.specs.declared.commands.SecondFound.{SecondFound}
 use Rattle.target.specs.declared.commands.SecondFound.the-variants as second
+use Rattle.target.specs.declared.RowCycles.{RowCycles}
 use Rattle.target.specs.declared.Sequence.{Sequence}
 use Rattle.target.specs.declared.Sequence.the-variants.{Idle, Columns, Rows, Single, Due, Filling, Moving, Setting}
+use Rattle.target.specs.declared.views.Given.{Given}
+use Rattle.target.specs.declared.views.Given.the-variants as given
+use Rattle.target.specs.declared.views.Ender.{Ender}
 use Rattle.target.specs.declared.Output.{Output}
 use Rattle.target.specs.declared.Output.the-variants as output
 use Rattle.target.specs.declared.Refusal.the-variants.{PastEnd}
 use Rattle.target.specs.declared.Verdict.the-variants as verdicts
 use Rattle.rules.specs.Rules.{verdict, beforeReset, misplaced, fits, lunWorks, pastEnd, outputWorks, outputEnded}
 use Rattle.rules.proofs.ByKind.{out-verdict}
-use Rattle.effects.specs.Effects.{begun, endedLuns, finished, workOf, targetAfter, lunsAfter, sequenceAfter, outputAfter, selectedAfter, clearAfter, highAfter}
-use Rattle.step.specs.Buffers.{findings, registersAfter, arrayAfter, countsAfter, statusOf, outputByte}
+use Rattle.effects.specs.Effects.{addressedLuns, endedLuns, finished, workOf, targetAfter, lunsAfter, sequenceAfter, outputAfter, selectedAfter, clearAfter, highAfter}
+use Rattle.step.specs.Buffers.{registersAfter, arrayAfter, countsAfter, statusOf, outputByte}
 use Rattle.step.specs.Step.{Buffers, Outcome, replyOf, worked, acceptedBy, accepted, stepOf}
 use Rattle.thm_kept.proofs.Choice.{by-pick, then-not}
-use Rattle.thm_steps.specs.Steps.{command, address, dataOut, finish, lastRow, Work, Status, Live}
+use Rattle.thm_steps.specs.Steps.{address, dataOut, finish, lastRow, beginsWork, Work, Status, Live}
+use Rattle.thm_steps.proofs.Places.{by-ending, closes-80}
 use Rattle.thm_steps.proofs.Taken.{put, seen-out, accepts, left-by, left-at, left-first}
 
--- Work: a second command that is none of 30h, 10h and D0h leaves the LUN records.
+-- Work: a second command that is none of 30h, 35h, 10h and D0h leaves the LUN records.
 
 abbrev foundStarts : SecondFound → Bool
 foundStarts second.Nothing = false
 foundStarts (second.Found s) = secondRow s .starts
 
-by-tests : (a o p q m : Bool) → (a || p || q) ≡ false
-    → foundStarts (pick a (second.Found StartRead) (pick o (second.Found StartOutput) (pick p (second.Found StartProgram) (pick q (second.Found StartErase) (pick m (second.Found Move) second.Nothing))))) ≡ false
+by-tests : (a c p q o m : Bool) → (a || c || p || q) ≡ false
+    → foundStarts (pick a (second.Found StartRead) (pick o (second.Found StartOutput) (pick p (second.Found StartProgram)
+    (pick q (second.Found StartErase) (pick m (second.Found Move) (pick c (second.Found StartCopyback) second.Nothing))))))
+    ≡ false
 unfolding secondRow
-by-tests true o p q m h = absurd (false≢true (sym h))
-by-tests false true p q m h = refl
-by-tests false false true q m h = absurd (false≢true (sym h))
-by-tests false false false true m h = absurd (false≢true (sym h))
-by-tests false false false false true h = refl
-by-tests false false false false false h = refl
+by-tests true c p q o m h = absurd (false≢true (sym h))
+by-tests false true p q o m h = absurd (false≢true (sym h))
+by-tests false false true q o m h = absurd (false≢true (sym h))
+by-tests false false false true o m h = absurd (false≢true (sym h))
+by-tests false false false false true m h = refl
+by-tests false false false false false true h = refl
+by-tests false false false false false false h = refl
 
-starts-none : (v : ℕ) → (eqb v 0x30 || eqb v 0x10 || eqb v 0xd0) ≡ false → foundStarts (secondOf v) ≡ false
+starts-none : (v : ℕ) → (eqb v 0x30 || eqb v 0x35 || eqb v 0x10 || eqb v 0xd0) ≡ false → foundStarts (secondOf v) ≡ false
 unfolding secondOf secondRow
-starts-none v h = by-tests (eqb v 0x30) (eqb v 0xe0) (eqb v 0x10) (eqb v 0xd0) (eqb v 0x85) h
+starts-none v h = by-tests (eqb v 0x30) (eqb v 0x35) (eqb v 0x10) (eqb v 0xd0) (eqb v 0xe0) (eqb v 0x85) h
+
+not-yes : (a : Bool) → (a ≡ true → ⊥) → a ≡ false
+not-yes true h = absurd (h refl)
+not-yes false h = refl
+
+-- a row that closes a copyback leaves what else the records say
+closed-leaves : (says : Lun → Bool) → ((x : Lun) → says (lunClosed x) ≡ says x) → (luns : List Lun) (i l : ℕ)
+    → says (lunAt (set luns i (lunClosed (lunAt luns i))) l) ≡ says (lunAt luns l)
+closed-leaves says same [] i l = refl
+closed-leaves says same (x ∷ xs) zero zero = same x
+closed-leaves says same (x ∷ xs) zero (suc l) = refl
+closed-leaves says same (x ∷ xs) (suc i) zero = refl
+closed-leaves says same (x ∷ xs) (suc i) (suc l) = closed-leaves says same xs i l
+
+module _ (g : Geometry) (luns : List Lun) where
+  row-leaves : (says : Lun → Bool) → ((x : Lun) → says (lunClosed x) ≡ says x) → (k : Given) (l : ℕ)
+      → says (lunAt (addressedLuns g luns k) l) ≡ says (lunAt luns l)
+  row-leaves says same given.Nothing l = refl
+  row-leaves says same (given.Column k) l = refl
+  row-leaves says same (given.Row k) l =
+      by-pick (λ (x : List Lun). says (lunAt x l) ≡ says (lunAt luns l)) (closesCopyback (k .first)) _ _
+      (λ _. closed-leaves says same luns (lunOf g (k .row)) l) (λ _. refl)
+  row-leaves says same (given.Single k) l = refl
+
+  -- and where it is not the last cycle of 80h's row, all
+  last-leaves : (k : RowCycles) → ((c : Column) (low mid : ℕ) → Rows k ≡ lastRow first.Program c low mid → ⊥)
+      → eqb (k .got) 2 ≡ true → closesCopyback (k .first) ≡ false
+  last-leaves k other last =
+      not-yes (closesCopyback (k .first)) (λ is. other (k .column) (k .low) (k .mid)
+      (ap (λ (n : ℕ). Rows (record { first = k .first; column = k .column; got = n; low = k .low; mid = k .mid })) (eqb-true (k .got) 2 last)
+      ∙ ap (λ (f : First). lastRow f (k .column) (k .low) (k .mid)) (closes-80 (k .first) is)))
+
+  no-row-closes : (s : Sequence) (v : ℕ) → ((c : Column) (low mid : ℕ) → s ≡ lastRow first.Program c low mid → ⊥)
+      → addressedLuns g luns (completed s v) ≡ luns
+  no-row-closes Idle v other = refl
+  no-row-closes (Columns k) v other = by-pick (λ (x : Given). addressedLuns g luns x ≡ luns) (eqb (k .got) 1) _ _ (λ _. refl) (λ _. refl)
+  no-row-closes (Rows k) v other =
+      by-pick (λ (x : Given). addressedLuns g luns x ≡ luns) (eqb (k .got) 2) _ _
+      (λ last. ap (λ (x : Bool). pick x (set luns (lunOf g (rowFrom (k .low) (k .mid) v)) (lunClosed (lunAt luns (lunOf g (rowFrom (k .low) (k .mid) v))))) luns) (last-leaves k other last))
+      (λ _. refl)
+  no-row-closes (Single f) v other = refl
+  no-row-closes (Due k) v other = refl
+  no-row-closes (Filling k) v other = refl
+  no-row-closes (Moving k) v other = by-pick (λ (x : Given). addressedLuns g luns x ≡ luns) (eqb (k .got) 1) _ _ (λ _. refl) (λ _. refl)
+  no-row-closes (Setting k) v other = refl
 
 module _ (g : Geometry) (luns : List Lun) (found : Findings) where
-  quiet-found : (k : SecondFound) (c : Column) (r : Row) (rowed : Bool) → foundStarts k ≡ false → endedLuns g luns (endedWith k c r rowed) found ≡ luns
-  quiet-found second.Nothing c r rowed h = refl
-  quiet-found (second.Found s) c r rowed h = ap (λ (x : Bool). pick x (begun g luns r (not (found .proceeds))) luns) h
+  quiet-found : (k : SecondFound) (f : First) (c : Column) (r : Row) → foundStarts k ≡ false → endedLuns g luns (endedWith k f c r) found ≡ luns
+  quiet-found second.Nothing f c r h = refl
+  quiet-found (second.Found s) f c r h = rw (h)
 
-  quiet-pick : (x : Bool) (k : SecondFound) (c : Column) (r : Row) (rowed : Bool) → foundStarts k ≡ false
-      → endedLuns g luns (pick x (endedWith k c r rowed) (endedWith second.Nothing c r rowed)) found ≡ luns
-  quiet-pick true k c r rowed h = quiet-found k c r rowed h
-  quiet-pick false k c r rowed h = refl
+  quiet : (v : ℕ) → foundStarts (secondOf v) ≡ false → (s : Sequence) → endedLuns g luns (ending s v) found ≡ luns
+  quiet v h s = by-ending (λ (x : Ender). endedLuns g luns x found ≡ luns) v refl (λ f c r. quiet-found (secondOf v) f c r h) s
 
-  quiet : (s : Sequence) (v : ℕ) → foundStarts (secondOf v) ≡ false → endedLuns g luns (ending s v) found ≡ luns
-  quiet Idle v h = refl
-  quiet (Columns k) v h = refl
-  quiet (Rows k) v h = refl
-  quiet (Single f) v h = refl
-  quiet (Due k) v h = quiet-pick (eqb v (endOf (k .first))) (secondOf v) (k .column) (k .row) (takesRow (k .first)) h
-  quiet (Filling k) v h = quiet-pick (eqb v 0x10 || eqb v 0x85) (secondOf v) (k .at) (k .row) true h
-  quiet (Moving k) v h = refl
-  quiet (Setting k) v h = refl
-
-  else-same : (s : Sequence) (e : Event) → isReset e ≡ false → (eqb (e .kind) 0 && (eqb (e .value) 0x30 || eqb (e .value) 0x10 || eqb (e .value) 0xd0)) ≡ false → eqb (e .kind) 4 ≡ false
-      → lunsAfter g luns s e found ≡ luns
+  -- so what holds of the records as they are, and after a row, holds after every event that neither begins nor ends work
+  else-by : (P : List Lun → Type 0) (s : Sequence) (e : Event) → beginsWork e ≡ false → eqb (e .kind) 4 ≡ false → isReset e ≡ false
+      → P luns → (eqb (e .kind) 1 ≡ true → P (addressedLuns g luns (completed s (e .value))))
+      → P (lunsAfter g luns s e found)
   unfolding lunsAfter
-  else-same s e ff begins four =
-      ap (λ (x : Bool). pick x allReady (pick (eqb (e .kind) 0) (endedLuns g luns (ending s (e .value)) found) (pick (eqb (e .kind) 4) (finished luns (e .value)) luns))) ff
-      ∙ by-pick (λ (x : List Lun). x ≡ luns) (eqb (e .kind) 0) (endedLuns g luns (ending s (e .value)) found) (pick (eqb (e .kind) 4) (finished luns (e .value)) luns)
-      (λ is. quiet s (e .value) (starts-none (e .value) (then-not (eqb (e .kind) 0) (eqb (e .value) 0x30 || eqb (e .value) 0x10 || eqb (e .value) 0xd0) begins is)))
-      (λ _. ap (λ (x : Bool). pick x (finished luns (e .value)) luns) four)
+  else-by P s e begins four ff same row =
+      by-pick P (isReset e) _ _ (λ is. absurd (false≢true (sym ff ∙ is)))
+      (λ _. by-pick P (eqb (e .kind) 0) _ _
+      (λ is. subst P (sym (quiet (e .value) (starts-none (e .value) (then-not (eqb (e .kind) 0) (eqb (e .value) 0x30 || eqb (e .value) 0x35 || eqb (e .value) 0x10 || eqb (e .value) 0xd0) begins is)) s)) same)
+      (λ _. by-pick P (eqb (e .kind) 1) _ _ row
+      (λ _. by-pick P (eqb (e .kind) 4) _ _ (λ is. absurd (false≢true (sym four ∙ is))) (λ _. same))))
+
+  else-says : (says : Lun → Bool) → ((x : Lun) → says (lunClosed x) ≡ says x) → (s : Sequence) (e : Event)
+      → beginsWork e ≡ false → eqb (e .kind) 4 ≡ false → isReset e ≡ false
+      → (l : ℕ) → says (lunAt (lunsAfter g luns s e found) l) ≡ says (lunAt luns l)
+  else-says says same s e begins four ff l =
+      else-by (λ (x : List Lun). says (lunAt x l) ≡ says (lunAt luns l)) s e begins four ff refl
+      (λ _. row-leaves g luns says same (completed s (e .value)) l)
 
 finished-luns : (t : Target) (l : ℕ) (found : Findings) → lunsAfter (t .geometry) (t .luns) (t .decoder .sequence) (finish l) found ≡ finished (t .luns) l
 unfolding lunsAfter
@@ -119,9 +173,17 @@ module _ (t : Target) (params : List ℕ) (b : Buffers) (flags : List ℕ) where
   unfolding accepted acceptedBy targetAfter
   working-luns = record {
     finishes = λ l h. ap (λ (o : Outcome). o .target .luns) (left-by t (finish l) params b flags h) ∙ finished-luns t l _;
-    else-as-it-is = λ e h begins four ff.
+    else-as-it-is = λ e h begins four ff l.
+        let p = ap (λ (o : Outcome). o .target .luns) (left-by t e params b flags h) in (
+          ap (λ (x : List Lun). works x l) p
+              ∙ else-says (t .geometry) (t .luns) _ (λ (x : Lun). x .working) (λ _. refl) (t .decoder .sequence) e begins four ff l,
+          ap (λ (x : List Lun). failed x l) p
+              ∙ else-says (t .geometry) (t .luns) _ (λ (x : Lun). x .fail) (λ _. refl) (t .decoder .sequence) e begins four ff l,
+        );
+    only-a-row = λ e h begins four ff other.
         ap (λ (o : Outcome). o .target .luns) (left-by t e params b flags h)
-        ∙ else-same (t .geometry) (t .luns) (findings (t .geometry) (t .decoder .sequence) e (b .counts) flags) (t .decoder .sequence) e ff begins four;
+        ∙ else-by (t .geometry) (t .luns) _ (λ (x : List Lun). x ≡ t .luns) (t .decoder .sequence) e begins four ff refl
+        (λ is. no-row-closes (t .geometry) (t .luns) (t .decoder .sequence) (e .value) (λ c low mid at. false≢true (sym (other c low mid at) ∙ is)));
   }
 
   pub status : Status t params b flags

@@ -4,15 +4,16 @@ use mathlib.Core.Path.{_≡_, refl, sym, ap, subst, _∙_}
 use mathlib.Core.Bool.{Bool, true, false, _&&_, _||_, not, false≢true}
 use mathlib.Core.List.{List}
 use Prim.Native.Nat.{ℕ}
-use lib.ListN.{length}
+use native.Mathlib.Omega.{arith}
 use lib.Dec.{eqb}
 use Rattle.target.specs.Pick.{pick}
 use Rattle.target.specs.Numbers.{numberOf}
-use Rattle.target.specs.Commands.{secondOf, endOf, takesRow}
-use Rattle.target.specs.Views.{ending, endedBy, endedWith}
-use Rattle.target.specs.Place.{isOpen, isEnded, takesCommand, commandFits}
+use Rattle.target.specs.Commands.{secondOf}
+use Rattle.target.specs.Views.{ending, endedWith}
+use Rattle.target.specs.Place.{isEnded, takesCommand, commandFits}
 use Rattle.target.specs.declared.Column.{Column}
 use Rattle.target.specs.declared.Row.{Row}
+use Rattle.target.specs.declared.First.{First}
 use Rattle.target.specs.declared.Event.{Event}
 use Rattle.target.specs.declared.Target.{Target}
 use Rattle.target.specs.declared.Sequence.{Sequence}
@@ -20,19 +21,20 @@ use Rattle.target.specs.declared.Sequence.the-variants.{Idle, Columns, Rows, Si
 use Rattle.target.specs.declared.Output.{Output}
 use Rattle.target.specs.declared.commands.SecondFound.{SecondFound}
 use Rattle.target.specs.declared.commands.SecondFound.the-variants as second
+use Rattle.target.specs.declared.views.Ender.{Ender}
 use Rattle.target.specs.declared.Refusal.{Refusal}
 use Rattle.target.specs.declared.Refusal.the-variants.{NotUsable}
-use Rattle.target.specs.declared.Reply.{Reply}
 use Rattle.target.specs.declared.Reply.the-variants as reply
 use Rattle.target.specs.declared.Verdict.{Verdict}
 use Rattle.target.specs.declared.Verdict.the-variants as verdicts
 use Rattle.rules.specs.Rules.{verdict, fits, misplaced}
 use Rattle.rules.proofs.Passed.{all-passed}
-use Rattle.step.specs.Usable.{usable}
+use Rattle.effects.specs.Effects.{targetRefused}
 use Rattle.step.specs.Step.{Buffers, Outcome, replyOf, acceptedBy, accepted, byVerdict, steady, stepOf}
 use Rattle.thm_kept.specs.Kept.{letsPass}
 use Rattle.thm_kept.proofs.Kept.{step-steady}
 use Rattle.thm_steps.specs.Steps.{command, Taken, RefusedWith, Live}
+use Rattle.thm_steps.proofs.Places.{by-ending}
 
 -- the record with this mark of the first FFh, this place reached and this output
 abbrev pub put : Target → Bool → Sequence → Output → Target
@@ -60,6 +62,16 @@ seen-at t s k h = at-place t s h ∙ ap (λ (x : Bool). put t x s (t .decoder .o
 
 pub seen-out : (t : Target) (o : Output) → t .seen ≡ true → t .decoder .output ≡ o → t ≡ put t true (t .decoder .sequence) o
 seen-out t o k h = at-output t o h ∙ ap (λ (x : Bool). put t x (t .decoder .sequence) o) k
+
+-- an accepted event's reply is no refusal
+no-refusal : (x : Bool) (v : ℕ) (q : Refusal) → pick x (reply.Byte v) reply.Accepted ≡ reply.Refused q → ⊥
+no-refusal true v q h = let z : _≡_ {A = ℕ} 0 1 = cc in omega arith
+no-refusal false v q h = let z : _≡_ {A = ℕ} 0 1 = cc in omega arith
+
+-- a test that a second one rules out
+pub and-none : (a : Bool) → (a && false) ≡ false
+and-none true = refl
+and-none false = refl
 
 module _ (t : Target) (e : Event) (params : List ℕ) (b : Buffers) (flags : List ℕ) where
   by-verdict : (v : Verdict) → ((q : Refusal) → byVerdict v t e params b flags .reply ≡ reply.Refused q → ⊥) → v ≡ verdicts.Accepted
@@ -90,6 +102,26 @@ module _ (t : Target) (e : Event) (params : List ℕ) (b : Buffers) (flags : Lis
   unfolding byVerdict
   refuses r n same ok h = (r, (ap (λ (o : Outcome). o .reply) (decided (verdicts.Refused r) ok h), same))
 
+  -- and a refusal leaves the buffers and the LUN records
+  abbrev Leaves : Outcome → Type 0
+  Leaves o = (o .buffers ≡ b) × (o .target .luns ≡ t .luns)
+
+  verdict-leaves : (v : Verdict) (q : Refusal) → byVerdict v t e params b flags .reply ≡ reply.Refused q → Leaves (byVerdict v t e params b flags)
+  unfolding byVerdict accepted acceptedBy replyOf targetRefused
+  verdict-leaves verdicts.Accepted q h = absurd (no-refusal (eqb (e .kind) 3) _ q h)
+  verdict-leaves (verdicts.Refused r) q h = (refl, refl)
+
+  usable-leaves : (ok : Bool) (q : Refusal) → pick ok (steady t e params b flags) (record { reply = reply.Refused NotUsable; target = t; buffers = b }) .reply ≡ reply.Refused q
+      → Leaves (pick ok (steady t e params b flags) (record { reply = reply.Refused NotUsable; target = t; buffers = b }))
+  unfolding steady
+  usable-leaves true q h = verdict-leaves (verdict t e) q h
+  usable-leaves false q h = (refl, refl)
+
+  pub left-refused : (q : Refusal) → stepOf t e params b flags .reply ≡ reply.Refused q
+      → (stepOf t e params b flags .buffers ≡ b) × (stepOf t e params b flags .target .luns ≡ t .luns)
+  unfolding stepOf
+  left-refused q h = usable-leaves (letsPass t params b flags) q h
+
   pub left-by : Taken t params b flags e → stepOf t e params b flags ≡ accepted t e params b flags
   left-by h = accepts (taken h .0) (taken h .1)
 
@@ -101,17 +133,19 @@ module _ (t : Target) (e : Event) (params : List ℕ) (b : Buffers) (flags : Lis
   left-out o k h = left-by h ∙ ap (λ (x : Target). accepted x e params b flags) (at-output t o k)
 
 -- a command that is no second command is accepted with no sequence open alone
-not-ended : (x : Bool) (k : SecondFound) (c : Column) (r : Row) (rowed : Bool) → k ≡ second.Nothing → isEnded (pick x (endedWith k c r rowed) (endedWith second.Nothing c r rowed)) ≡ false
-not-ended true k c r rowed h = rw (h)
-not-ended false k c r rowed h = refl
+not-ended : (k : SecondFound) (f : First) (c : Column) (r : Row) → k ≡ second.Nothing → isEnded (endedWith k f c r) ≡ false
+not-ended k f c r h = rw (h)
+
+ends-nothing : (s : Sequence) (v : ℕ) → secondOf v ≡ second.Nothing → isEnded (ending s v) ≡ false
+ends-nothing s v h = by-ending (λ (x : Ender). isEnded x ≡ false) v refl (λ f c r. not-ended (secondOf v) f c r h) s
 
 pub fits-idle : (s : Sequence) (v : ℕ) → secondOf v ≡ second.Nothing → commandFits s v ≡ true → s ≡ Idle
 fits-idle Idle v h k = refl
 fits-idle (Columns x) v h k = absurd (false≢true k)
 fits-idle (Rows x) v h k = absurd (false≢true k)
 fits-idle (Single f) v h k = absurd (false≢true k)
-fits-idle (Due x) v h k = absurd (false≢true (sym (not-ended (eqb v (endOf (x .first))) (secondOf v) (x .column) (x .row) (takesRow (x .first)) h) ∙ k))
-fits-idle (Filling x) v h k = absurd (false≢true (sym (not-ended (eqb v 0x10 || eqb v 0x85) (secondOf v) (x .at) (x .row) true h) ∙ k))
+fits-idle (Due x) v h k = absurd (false≢true (sym (ends-nothing (Due x) v h) ∙ k))
+fits-idle (Filling x) v h k = absurd (false≢true (sym (ends-nothing (Filling x) v h) ∙ k))
 fits-idle (Moving x) v h k = absurd (false≢true k)
 fits-idle (Setting x) v h k = absurd (false≢true k)
 
@@ -120,6 +154,10 @@ not-true-not true h = refl
 not-true-not false h = absurd (false≢true (sym h))
 
 module _ (t : Target) (params : List ℕ) (b : Buffers) (flags : List ℕ) where
+  -- the verdict at a place, once the first FFh has come
+  pub verdict-at : (s : Sequence) (e : Event) → t .decoder .sequence ≡ s → Live t params b flags → verdict t e ≡ verdict (put t true s (t .decoder .output)) e
+  verdict-at s e h live = ap (λ (x : Target). verdict x e) (seen-at t s (live .seen) h)
+
   pub command-fits : (v : ℕ) → eqb v 0xff ≡ false → Taken t params b flags (command v) → commandFits (t .decoder .sequence) v ≡ true
   unfolding misplaced fits
   command-fits v other h =

@@ -13,6 +13,7 @@ use Rattle.target.specs.Numbers.{numberOf}
 use Rattle.target.specs.Events.{isReset}
 use Rattle.target.specs.Words.{hasFeature, hasOption}
 use Rattle.target.specs.Sizes.{pageSize}
+use Rattle.target.specs.Place.{isOpen}
 use Rattle.target.specs.Commands.{byteOf, cyclesOf, needsCopyback, secondOf, isSecondFound}
 use Rattle.target.specs.Address.{columnFrom, rowFrom, lunOf, lunExists, rowExists}
 use Rattle.target.specs.Luns.{lunAt, lunClosed, works, failed, copybackAt, allReady}
@@ -213,6 +214,8 @@ module _ (t : Target) (params : List ℕ) (b : Buffers) (flags : List ℕ) where
         → (after (address v) .target .decoder .sequence ≡ moving f r 1 v) × LeavesBuffers (address v)
     pub moves-high : (f : First) (r : Row) (low v : ℕ) → At (moving f r 1 low) → Taken (address v)
         → (after (address v) .target .decoder .sequence ≡ filling f r (columnFrom low v)) × LeavesBuffers (address v)
+    -- where a sequence is open, 85h is accepted where a program takes data alone
+    pub only-moves : Taken (command 0x85) → isOpen (t .decoder .sequence) ≡ true → (k : Fill) × At (Filling k)
     -- 10h is accepted where a program takes data alone
     pub only-here : Taken (command 0x10) → (k : Fill) × At (Filling k)
     -- "10h: each array byte becomes old AND register, the count rises by one"
@@ -284,6 +287,9 @@ module _ (t : Target) (params : List ℕ) (b : Buffers) (flags : List ℕ) where
         → (after (address v) .target .decoder .sequence ≡ filling first.CopybackProgram (rowFrom low mid v) c)
         × (after (address v) .target .luns ≡ t .luns) × LeavesBuffers (address v)
     -- "its row is checked as 80h's, 5 included"
+    pub no-row : (c : Column) (low mid v : ℕ) → At (lastRow first.CopybackProgram c low mid) → Live
+        → rowExists (t .geometry) (rowFrom low mid v) ≡ false
+        → RefusedWith 4 (address v)
     pub busy : (c : Column) (low mid v : ℕ) → At (lastRow first.CopybackProgram c low mid) → Live
         → rowExists (t .geometry) (rowFrom low mid v) ≡ true → works (t .luns) (lun (rowFrom low mid v)) ≡ true
         → RefusedWith 5 (address v)
@@ -292,6 +298,12 @@ module _ (t : Target) (params : List ℕ) (b : Buffers) (flags : List ℕ) where
         → rowExists (t .geometry) (rowFrom low mid v) ≡ true → works (t .luns) (lun (rowFrom low mid v)) ≡ false
         → copybackAt (t .luns) (lun (rowFrom low mid v)) ≡ false
         → RefusedWith 14 (address v)
+    pub one-open : (c : Column) (low mid v : ℕ) → At (lastRow first.CopybackProgram c low mid) → Live
+        → rowExists (t .geometry) (rowFrom low mid v) ≡ true → works (t .luns) (lun (rowFrom low mid v)) ≡ false
+        → copybackAt (t .luns) (lun (rowFrom low mid v)) ≡ true
+        → after (address v) .reply ≡ reply.Accepted
+    -- "85h moves are allowed as in a program", and in a program they need no optional bit
+    pub moves : (f : First) (r : Row) (c : Column) → At (filling f r c) → Live → after (command 0x85) .reply ≡ reply.Accepted
     -- "Optional bit 4; without it 35h, and 85h as a first command, are refusal 1"
     pub not-offered : Live → hasOption (t .words) 4 ≡ false → RefusedWith 1 (command 0x35)
     pub lone : At Idle → Live → hasOption (t .words) 4 ≡ false → RefusedWith 1 (command 0x85)
@@ -311,11 +323,13 @@ module _ (t : Target) (params : List ℕ) (b : Buffers) (flags : List ℕ) where
     -- "A LUN works .. to its finish event", which leaves FAIL as it is
     pub finishes : (l : ℕ) → Taken (finish l)
         → after (finish l) .target .luns ≡ set (t .luns) l (waiting (failed (t .luns) l) (copybackAt (t .luns) l))
-    -- and no other event but FFh begins or ends it, or sets FAIL; only a row may change the records besides
+    -- and no other event but FFh begins or ends it, or sets FAIL
     pub else-as-it-is : (e : Event) → Taken e → beginsWork e ≡ false → eqb (e .kind) 4 ≡ false → isReset e ≡ false
         → (l : ℕ) → (works (after e .target .luns) l ≡ works (t .luns) l) × (failed (after e .target .luns) l ≡ failed (t .luns) l)
+    -- of the others only the last row cycle of 80h may change the records
     pub only-a-row : (e : Event) → Taken e → beginsWork e ≡ false → eqb (e .kind) 4 ≡ false → isReset e ≡ false
-        → eqb (e .kind) 1 ≡ false → after e .target .luns ≡ t .luns
+        → ((c : Column) (low mid : ℕ) → At (lastRow first.Program c low mid) → eqb (e .kind) 1 ≡ false)
+        → after e .target .luns ≡ t .luns
 
   -- **Status.**
   pub record Status : Type 0 where

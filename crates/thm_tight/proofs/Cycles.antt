@@ -14,7 +14,7 @@ use Rattle.target.specs.Commands.{classOf, offered, rowOf, byteOf, needsReady, 
 use Rattle.target.specs.Views.{completed, taking}
 use Rattle.target.specs.Luns.{lunReady, allReady, lunAt, works}
 use Rattle.target.specs.Events.{badRecord}
-use Rattle.target.specs.Place.{takesAddress, takesData, hasOutput}
+use Rattle.target.specs.Place.{isOpen, takesAddress, takesData, hasOutput}
 use Rattle.target.specs.declared.Geometry.{Geometry}
 use Rattle.target.specs.declared.Lun.{Lun}
 use Rattle.target.specs.declared.Target.{Target}
@@ -194,7 +194,7 @@ second-accepted g luns selected o {s} {v} which =
 
 reset-accepted : (t : Target) → rules.verdict t (event 0 0xff) ≡ Accepted
 unfolding orElse beforeReset unknown classOf offered misplaced fits othersBusy lineLow rowOf firstOf secondOf secondRow
-reset-accepted t = command-verdict t 0xff
+reset-accepted t = command-verdict t 0xff ∙ rw (and-no (isOpen (t .decoder .sequence)))
 
 -- the rules that each of the other cycles can meet
 module _ (g : Geometry) (luns : List Lun) (calm : Calm luns) (selected : ℕ) (s : Sequence) (o : Output) where

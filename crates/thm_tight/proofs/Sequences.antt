@@ -196,7 +196,7 @@ four-calm a b c d p q r s (suc (suc zero)) = r
 four-calm a b c d p q r s (suc (suc (suc zero))) = s
 four-calm a b c d p q r s (suc (suc (suc (suc l)))) = refl
 
-copied-calm : (l : ℕ) → l < 4 → Calm (copiedAt l)
+pub copied-calm : (l : ℕ) → l < 4 → Calm (copiedAt l)
 copied-calm zero h = four-calm _ _ _ _ refl refl refl refl
 copied-calm (suc zero) h = four-calm _ _ _ _ refl refl refl refl
 copied-calm (suc (suc zero)) h = four-calm _ _ _ _ refl refl refl refl
@@ -230,10 +230,10 @@ ready-free g f r h = record {
 }
 
 module _ (g : Geometry) (flag : ℕ) (fine : Fine (full g flag)) where
-  m : Limits g
+  pub m : Limits g
   m = limits g (fine .limited)
 
-  pub first-base : Base g flag
+  abbrev pub first-base : Base g flag
   first-base = record { luns = allReady; calm = works-not; selected = 0; output = output.Nothing; way = still g flag fine }
 
 module _ (g : Geometry) (flag : ℕ) (fine : Fine (full g flag)) (base : Base g flag) where
@@ -444,16 +444,16 @@ module _ (g : Geometry) (flag : ℕ) (fine : Fine (full g flag)) where
         (ready-free g Read r (read-shape .3)) then.Second (read-shape .2)
 
     copies : Way (full g flag) (standing g copying-luns l Idle (output.Register l (record { 0 = 0 })))
-    copies = second g flag fine allReady l (Due due) output.Nothing 0x35 (copying refl) _ (λ _. copying-left g l r _) reads
+    copies = second g flag fine allReady l (Due due) output.Nothing 0x35 (copying refl) _ (λ counts. copying-left g l r counts _) reads
 
-    finishes : Way (full g flag) (standing g copied-luns l Idle (output.Register l (record { 0 = 0 })))
+    pub finishes : Way (full g flag) (standing g copied-luns l Idle (output.Register l (record { 0 = 0 })))
     finishes =
         let named = row-lun g r exists in
         let most = m g flag fine .luns-max in
         onward fine copies (event 4 l) (omega arith) (omega arith) (finish-accepted g l copying-luns _ named (copying-works l (omega arith))) _
         (λ _. finish-left g l copying-luns _ _)
 
-    pub copied-base : Base g flag
+    abbrev pub copied-base : Base g flag
     copied-base = record {
       luns = copied-luns;
       calm = copied-calm l (let most = m g flag fine .luns-max in omega (arith, row-lun g r exists));
