@@ -89,7 +89,7 @@ class Bench:
 
     @classmethod
     def t1(cls, *, strict: bool = True, **options: object) -> "Bench":
-        """The worked part T1: 512+16 bytes a page, 4 pages a block, 8 blocks, 2 LUNs, every option. Other words go to Bench."""
+        """The worked part T1: 512+16 bytes a page, 4 pages a block, 8 blocks, 2 LUNs; no copyback. Other words go to Bench."""
         return cls(parameter_page(), 0x68, strict=strict, **options)  # type: ignore[arg-type]
 
     @classmethod
@@ -192,6 +192,10 @@ class Bench:
     def working(self, lun: int) -> bool:
         """The LUN works: it waits for `finish`."""
         return bool(self._target.working[checks.lun(self.part, lun)] == 1)
+
+    def copyback_open(self, lun: int) -> bool:
+        """A copyback is open on the LUN: `copyback_read` has read a page, and `copyback_program` may program it."""
+        return bool(self._target.copyback[checks.lun(self.part, lun)] == 1)
 
     # ---- calls of the library
 
@@ -309,6 +313,19 @@ class Bench:
         """00h, five addresses, 30h: the page goes into the LUN's register, and output will begin at the column once it has finished."""
         row = checks.row(self.part, lun, block, page, row)
         return self._job(self._records_of("read", row, column), row, finish)
+
+    def copyback_read(self, lun: Optional[int] = None, block: Optional[int] = None, page: Optional[int] = None, column: int = 0, *,
+                      row: Optional[int] = None, finish: bool = True) -> Replies:
+        """00h, five addresses, 35h: as `load`, and a copyback is open on the LUN; then the LUN's finish, unless it is left working."""
+        row = checks.row(self.part, lun, block, page, row)
+        return self._job(self._records_of("read", row, column)[:-2] + _command(0x35), row, finish)
+
+    def copyback_program(self, lun: Optional[int] = None, block: Optional[int] = None, page: Optional[int] = None, data: bytes = b"",
+                         column: int = 0, *, row: Optional[int] = None, finish: bool = True) -> Replies:
+        """85h, five addresses, data in, 10h: what the LUN's register holds is programmed, with the data over it from the column on; then
+        the LUN's finish, unless it is left working. A failed program is accepted: ask `status`."""
+        row = checks.row(self.part, lun, block, page, row)
+        return self._job(_command(0x85) + self._records_of("program", row, column, data=bytes(data))[2:], row, finish)
 
     def read_page(self, lun: Optional[int] = None, block: Optional[int] = None, page: Optional[int] = None, column: int = 0,
                   count: Optional[int] = None, *, row: Optional[int] = None) -> bytes:

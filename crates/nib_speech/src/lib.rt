@@ -50,7 +50,7 @@ ghost use Rattle.nib_speech.specs.Speech.{versionNumber, textNext, textS
 pub fn version_number() -> u32
     ensures { λ r. ⌜ r ≡ versionNumber ⌝ }
 {
-    512
+    768
 }
 
 #[no_mangle]
