@@ -2,7 +2,7 @@
 from __future__ import annotations
 
 from dataclasses import dataclass
-from typing import List, Tuple
+from typing import Iterable, Iterator, List, Tuple
 
 from . import checks
 
@@ -48,13 +48,15 @@ def fields_outside(page: bytes) -> List[str]:
 
 @dataclass(frozen=True)
 class Part:
-    """How large a part is: P (data and spare bytes of a page), pages a block, blocks a LUN, LUNs, programs a page."""
+    """How large a part is: P (data and spare bytes of a page), pages a block, blocks a LUN, LUNs, programs a page; and how
+    many of P are spare."""
 
     page_size: int
     pages: int
     blocks: int
     luns: int
     programs: int
+    spare: int = 0
 
     @classmethod
     def of(cls, page: bytes) -> "Part":
@@ -63,7 +65,8 @@ class Part:
         def number(first: int, last: int) -> int:
             return int.from_bytes(page[first:last + 1], "little")
 
-        return cls(number(80, 83) + number(84, 85), number(92, 95), number(96, 99), number(100, 100), number(110, 110))
+        return cls(number(80, 83) + number(84, 85), number(92, 95), number(96, 99), number(100, 100), number(110, 110),
+                   number(84, 85))
 
     @property
     def array_length(self) -> int:
@@ -98,6 +101,23 @@ class Part:
     def page_start(self, lun: int, block: int, page: int) -> int:
         """Where the page starts in the array. ValueError where there is none."""
         return self.page_number(lun, block, page) * self.page_size
+
+    def flags_of(self, bad: Iterable[Tuple[int, int]]) -> bytearray:
+        """A flag for each block: 1 for those that are given, by LUN and block."""
+        flags = bytearray(self.flags_length)
+        for lun, block in bad:
+            self._look(lun, block, 0)
+            flags[lun * self.blocks + block] = 1
+        return flags
+
+    def marks(self, flags: Iterable[int]) -> Iterator[Tuple[int, int]]:
+        """Where the array has a block's mark, as makers put it, and the mark: the first spare byte of the block's first page is
+        00h in a bad block, and FFh in a good one."""
+        if self.spare == 0:
+            raise ValueError("the part has no spare bytes, and so no place for a block's mark")
+        size = self.pages * self.page_size
+        for number, flag in enumerate(flags):
+            yield number * size + self.page_size - self.spare, 0x00 if flag else 0xFF
 
     def _look(self, lun: int, block: int, page: int) -> None:
         checks.lun(self, lun)
