@@ -72,6 +72,8 @@ class Files(Nib):
             "page": parameter_page(), "id": b"\x68", "array": b"\xFF" * 33792, "counts": bytes(64), "flags": bytes(16)})
         self.good("new", "t2", "T2")
         self.assertEqual(held(self.folder / "t2")["page"][0], parameter_page(pages=3, blocks=5))
+        self.good("new", "w", "W")
+        self.assertEqual(held(self.folder / "w")["page"][0], nibtoggle.PARTS["W"].page)
 
     def test_what_only_reads_changes_nothing(self) -> None:
         self.good("new", "t1")
@@ -116,9 +118,10 @@ class Files(Nib):
             self.assertEqual(bytes(bench.page_of(1, 5, 3)[:3]), b"\x3C\xA5\xFF")
 
     def test_explain_says_what_python_says(self) -> None:
-        self.good("new", "t1")
+        self.good("new", "t1", "W")
         values = bytes(byte for kind in range(8) for value in range(256) for byte in (kind, value))
-        for trace in (self.trace + b"\x05\x00\x05\x01\x05\x02\x07", (NIBS / "trace").read_bytes(), values,
+        for trace in (records_of("c ff c 00 a 00 00 00 00 00 c 35 c 85 a 00 00 00 00 00 f 0 c 85 a 00 00 00 00 00 c 85 a 00 00 c 85 a 00"),
+                      self.trace + b"\x05\x00\x05\x01\x05\x02\x07", (NIBS / "trace").read_bytes(), values,
                       records_of("c ff c ef a 01 d 40 00 00 00 c 80 a 00 00 00 00 00 c 10 c 06 a 00 00 00 00 00 c 80 a 00 00 20 00 00 c 10 "
                                  "c 80 a 00 00 20 00 00 c 05 a 00 00 c 70 o 1 c 78 a 20 00 00 o 1")):
             bench = Bench.open(self.part, strict=False)
