@@ -116,7 +116,7 @@ class Bench:
         The folder stays as it is until `save`. Used by `with`, it is saved at the end unless an exception comes out.
         """
         where = Path(path)
-        page, device_id = folder.read_page(where), folder.read_id(where)
+        page, device_id = parts.page_of(folder.read_page(where)), folder.read_id(where)
         refusal = page_refusal(page, library)
         if refusal is not None:
             raise refusal
@@ -316,7 +316,7 @@ class Bench:
 
     def write(self, data: bytes) -> Replies:
         """Data-in cycles, one for each byte."""
-        return self._run(_records(DATA_IN, data))
+        return self._run(_records(DATA_IN, checks.data(data)))
 
     def read(self, count: int) -> bytes:
         """Data-out cycles: what they gave. Not strict, it ends before the first that is refused."""
@@ -328,7 +328,7 @@ class Bench:
 
     def protect(self, low: bool = True) -> Reply:
         """The bench pulls the protect line low, or lets it go high."""
-        return self._run(bytes((PROTECT, 0 if low else 1)))[0]
+        return self._run(bytes((PROTECT, 0 if checks.flag("low", low) else 1)))[0]
 
     # ---- jobs: whole sequences in one call
     #
@@ -343,7 +343,7 @@ class Bench:
                 *, row: Optional[int] = None, finish: bool = True) -> Replies:
         """80h, five addresses, data in, 10h; then the LUN's finish, unless it is left working. A failed program is accepted: ask `status`."""
         row = checks.row(self.part, lun, block, page, row)
-        return self._job(self._records_of("program", row, column, data=bytes(data)), row, finish)
+        return self._job(self._records_of("program", row, column, data=checks.data(data)), row, finish)
 
     def load(self, lun: Optional[int] = None, block: Optional[int] = None, page: Optional[int] = None, column: int = 0, *,
              row: Optional[int] = None, finish: bool = False) -> Replies:
@@ -409,12 +409,13 @@ class Bench:
 
     def set_feature(self, values: bytes, address: int = 0x01) -> Replies:
         """EFh: the feature's four bytes."""
-        checks.number("number of feature bytes", len(values), 4, 4)
-        return self._run(_command(0xEF) + bytes((ADDRESS, checks.byte("feature address", address))) + _records(DATA_IN, values))
+        four = checks.data(values)
+        checks.number("number of feature bytes", len(four), 4, 4)
+        return self._run(_command(0xEF) + bytes((ADDRESS, checks.byte("feature address", address))) + _records(DATA_IN, four))
 
     def program_clear(self, on: bool) -> Replies:
         """Feature 01h: with program-clear on, 80h clears the addressed LUN's register alone."""
-        return self.set_feature(b"\x40\0\0\0" if on else b"\0\0\0\0")
+        return self.set_feature(b"\x40\0\0\0" if checks.flag("on", on) else b"\0\0\0\0")
 
     def _records_of(self, kind: str, row: int, column: int = 0, count: int = 0, data: bytes = b"") -> bytes:
         """The cycles of a whole job, as the proved writer makes them, once its numbers are looked at."""

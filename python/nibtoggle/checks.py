@@ -2,7 +2,7 @@
 from __future__ import annotations
 
 import operator
-from typing import TYPE_CHECKING, Optional
+from typing import TYPE_CHECKING, Iterable, Optional, Union
 
 if TYPE_CHECKING:
     from .part import Part
@@ -23,6 +23,17 @@ def number(name: str, value: int, least: int, most: int) -> int:
 
 def byte(name: str, value: int) -> int:
     return number(name, value, 0, 255)
+
+
+def flag(name: str, value: int) -> bool:
+    return number(name, value, 0, 1) == 1
+
+
+def data(value: Union[bytes, bytearray, memoryview, Iterable[int]]) -> bytes:
+    """Bytes, or numbers that are bytes. One number alone would be so many bytes of 00h, which nobody means."""
+    if isinstance(value, (int, str)):
+        raise TypeError("data is bytes, and %r is none" % (value,))
+    return bytes(value)
 
 
 def count(name: str, value: int) -> int:

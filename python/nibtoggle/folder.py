@@ -45,8 +45,9 @@ def _file(folder: Path, name: str, due: int) -> bytes:
 
 
 def read_page(path: Path) -> bytes:
-    """A folder's page, 256 bytes; whether power-on takes them is another question."""
-    return _file(path, "page", PAGE_LENGTH)
+    """A folder's page, 256 bytes or the three copies of an answer to ECh; whether power-on takes it is another question."""
+    three = 3 * PAGE_LENGTH
+    return _file(path, "page", three if (path / "page").stat().st_size == three else PAGE_LENGTH)
 
 
 def read_id(path: Path) -> int:

@@ -171,6 +171,23 @@ class Folders(Tried):
         with Bench.new(self.folder / "t1", bytes(256) + small * 2) as bench:
             self.assertEqual(bytes(bench.page), small)
 
+    def test_a_folder_s_own_page_of_three_copies(self) -> None:
+        bad = bytes(256)
+        with Bench.new(self.folder / "t1"):
+            pass
+        page = (self.folder / "t1" / "page").read_bytes()
+        for answer in (page * 3, bad + page * 2, bad * 2 + page):
+            (self.folder / "t1" / "page").write_bytes(answer)
+            with Bench.open(self.folder / "t1") as bench:
+                self.assertEqual(bytes(bench.page), page)
+                bench.reset()
+                self.assertEqual(bench.parameters(), page)
+            self.assertEqual((self.folder / "t1" / "page").read_bytes(), answer)
+        (self.folder / "t1" / "page").write_bytes(bad * 3)
+        with self.assertRaises(nibtoggle.Refused) as caught:
+            Bench.open(self.folder / "t1")
+        self.assertEqual(caught.exception.number, 21)
+
 
 class Commands(Tried):
     """`python3 -m nibtoggle`, with its exit statuses."""

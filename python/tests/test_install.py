@@ -72,6 +72,11 @@ class Prefix(unittest.TestCase):
             asked = done(["sh", "-c", "ldd %s" % program.name], cwd=self.prefix, env={"LD_LIBRARY_PATH": str(lib)}).stdout
             self.assertEqual(soname in asked, not extra)
 
+        # a shared library of the user's own, with every name settled when it is linked
+        built = done(["cc", "-shared", "-fPIC", "-Wl,-z,defs", str(ROOT / "tests" / "c" / "install.c"), "-o",
+                      str(self.prefix / "own.so"), "-I%s" % (self.prefix / "include"), "-L%s" % lib, "-lnibtoggle"])
+        self.assertEqual(built.returncode, 0, built.stdout)
+
     def package_and_commands(self) -> None:
         said = done([sys.executable, "-c", "import nibtoggle; print(nibtoggle.Library.found().path); nibtoggle.Bench.t1().reset()"],
                     env={"PYTHONPATH": str(self.packages)}, cwd=self.prefix)
@@ -139,6 +144,18 @@ class Typed(unittest.TestCase):
         with tempfile.TemporaryDirectory() as cache:
             said = done([mypy, "--strict", "--cache-dir", cache, "nibtoggle"], cwd=ROOT / "python")
         self.assertEqual(said.returncode, 0, said.stdout)
+
+
+class Names(unittest.TestCase):
+    """What the library asks for is the C library's memory functions, and nothing that reads, writes or ends."""
+
+    def test_nothing_else_is_asked_for(self) -> None:
+        for name, words in (("libnibtoggle.so", ["-D"]), ("libnibtoggle.a", [])):
+            said = done(["nm", "--undefined-only", *words, str(ROOT / "target" / "host" / name)])
+            self.assertEqual(said.returncode, 0, said.stdout)
+            asked = set(re.findall(r"^ +U (\w+)", said.stdout, re.M))
+            self.assertIn("memcpy", asked)
+            self.assertLessEqual(asked, {"memcpy", "memset", "memmove", "memcmp", "bcmp"})
 
 
 class Header(unittest.TestCase):

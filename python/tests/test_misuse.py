@@ -71,6 +71,18 @@ class Numbers(unittest.TestCase):
         self.sends_nothing(lambda: b.program(0, 0, 1.5, b"x"), TypeError)      # type: ignore[arg-type]
         self.sends_nothing(lambda: b.program(0, 0), TypeError)
 
+    def test_data_is_bytes_and_a_level_is_one_of_two(self) -> None:
+        b = self.bench
+        # bytes(5) are five of 00h, which nobody means who writes 5 for data
+        for call in (lambda: b.program(0, 0, 0, 5), lambda: b.write(5), lambda: b.program(0, 0, 0, "x"),      # type: ignore[arg-type]
+                     lambda: b.set_feature(4)):                                                               # type: ignore[arg-type]
+            self.sends_nothing(call, TypeError)
+        for call in (lambda: b.protect(2), lambda: b.protect(-1), lambda: b.program_clear(64)):
+            self.sends_nothing(call)
+        b.program(0, 0, 0, [0x3C, 0xA5])                                                                      # type: ignore[arg-type]
+        self.assertEqual(bytes(b.page_of(0, 0, 0)[:2]), b"\x3C\xA5")
+        self.assertTrue(b.protect(True).ok and b.protect(0).ok)
+
     def test_the_message_names_the_number_and_its_range(self) -> None:
         with self.assertRaisesRegex(ValueError, "page is 0 to 3, and 4 was given"):
             self.bench.program(0, 0, 4, b"x")

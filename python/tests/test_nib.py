@@ -16,12 +16,14 @@ ROOT = Path(__file__).resolve().parent.parent.parent
 sys.path.insert(0, str(ROOT / "python"))
 
 import nibtoggle  # noqa: E402
-from nibtoggle import Bench, parameter_page, records_of  # noqa: E402
+from nibtoggle import Bench, parameter_page, records_of, text_of  # noqa: E402
 from nibtoggle.cli import explained  # noqa: E402
 
 NIB = Path(os.environ.get("NIB_PROGRAM", ROOT / "target" / "bin" / "nib"))
 NIBS = ROOT / "crates" / "test_nib" / "data"
-SAVE = "c ff\nc 80  a 00 00 37 00 00  d 3c a5\nc 10  f 1\nc 80 a 00 00 00 00 00 d 11\nc 10 f 0\nc 00  a 00 00 37 00 00  c 30  f 1  o 3\n"
+SAVE = ("c ff\nc 80  a 00 00 37 00 00  d 3c a5\nc 10  f 1\nc 80 a 00 00 00 00 00 d 11\nc 10 f 0\n"
+        "c 00  a 00 00 37 00 00  c 30  f 1  o 3\n")
+VALUES = bytes(byte for kind in range(8) for value in range(256) for byte in (kind, value))
 Held = Dict[str, Tuple[bytes, int]]
 
 
@@ -116,12 +118,16 @@ class Files(Nib):
         self.assertEqual(said[-6:], bytes.fromhex("013C 01A5 01FF"))
         with Bench.open(self.part) as bench:
             self.assertEqual(bytes(bench.page_of(1, 5, 3)[:3]), b"\x3C\xA5\xFF")
+        # a page may be what ECh gave, three copies, the first of them damaged
+        (self.part / "page").write_bytes(bytes(256) + 2 * parameter_page())
+        self.assertEqual(self.good("run", "t1", given=b"\x00\xFF"), bytes(2))
+        with Bench.open(self.part) as bench:
+            self.assertEqual(bytes(bench.page), parameter_page())
 
     def test_explain_says_what_python_says(self) -> None:
         self.good("new", "t1", "W")
-        values = bytes(byte for kind in range(8) for value in range(256) for byte in (kind, value))
         for trace in (records_of("c ff c 00 a 00 00 00 00 00 c 35 c 85 a 00 00 00 00 00 f 0 c 85 a 00 00 00 00 00 c 85 a 00 00 c 85 a 00"),
-                      self.trace + b"\x05\x00\x05\x01\x05\x02\x07", (NIBS / "trace").read_bytes(), values,
+                      self.trace + b"\x05\x00\x05\x01\x05\x02\x07", (NIBS / "trace").read_bytes(), VALUES,
                       records_of("c ff c ef a 01 d 40 00 00 00 c 80 a 00 00 00 00 00 c 10 c 06 a 00 00 00 00 00 c 80 a 00 00 20 00 00 c 10 "
                                  "c 80 a 00 00 20 00 00 c 05 a 00 00 c 70 o 1 c 78 a 20 00 00 o 1")):
             bench = Bench.open(self.part, strict=False)
@@ -130,6 +136,13 @@ class Files(Nib):
             bench.close()
         lines = self.good("explain", "t1", given=b"\x05\x00\x05\x01\x05\x02").decode().splitlines()
         self.assertEqual([line[8:44].strip() for line in lines[1:]], ["protect line low", "protect line high", "bytes 05 02"])
+
+    def test_text_both_ways_is_python_s(self) -> None:
+        for trace in (self.trace, VALUES, VALUES + b"\x05", b"\x05\x01\x05\x00", b"", (NIBS / "many").read_bytes()):
+            said = self.good("text", "-d", given=trace)
+            self.assertEqual(said.decode(), text_of(trace))
+            self.assertEqual(self.good("text", given=said), trace)
+        self.assertEqual(self.good("text", "-d", given=b"\x05\x00\x05\x01\x05\x07"), b"p 0\np 1\np 7\n")
 
 
 class Failures(Nib):
@@ -179,11 +192,106 @@ class Failures(Nib):
         self.assertIn("other/counts: File exists", error)
         self.assertEqual({name: contents for name, (contents, _) in held(self.folder / "other").items()}, {"counts": b"mine"})
 
+    def test_a_file_that_is_not_as_the_page_says(self) -> None:
+        for name in ("page", "id", "array", "counts", "flags"):
+            shutil.copytree(self.part, self.folder / "copy")
+            path = self.folder / "copy" / name
+            whole = path.read_bytes()
+            length = "power-on refused 20: " + nibtoggle.RULES[20] if name == "page" else "has "
+            for contents, told in ((whole[:-1], length), (whole + b"\0", length), (b"", length), (None, "No such file")):
+                path.unlink()
+                if contents is not None:
+                    path.write_bytes(contents)
+                self.refused_as_it_is("copy/%s: %s" % (name, told))
+                path.write_bytes(b"")
+            path.unlink()
+            path.mkdir()
+            self.refused_as_it_is("copy/%s: Is a directory" % name)
+            shutil.rmtree(self.folder / "copy")
+
+    def refused_as_it_is(self, told: str) -> None:
+        """`run` and `explain` say so, and leave the files of `copy` as they are."""
+        before = {path.name: path.is_file() and path.read_bytes() for path in (self.folder / "copy").iterdir()}
+        for command in ("run", "explain"):
+            said, error = self.nib(command, "copy", given=self.more)
+            self.assertEqual(said, b"")
+            self.assertTrue(error.startswith("nib: " + told), error)
+            self.assertEqual({path.name: path.is_file() and path.read_bytes() for path in (self.folder / "copy").iterdir()}, before)
+
+    def test_a_power_on_that_is_refused(self) -> None:
+        (self.part / "counts").write_bytes(b"\x09" + bytes(63))
+        before = held(self.part)
+        said, error = self.nib("run", "t1", given=self.more)
+        self.assertEqual((said, error), (b"", "nib: t1: power-on refused 25: %s\n" % nibtoggle.RULES[25]))
+        self.assertEqual(held(self.part), before)
+        lines = self.good("explain", "t1", given=self.more).decode().splitlines()
+        self.assertEqual(lines[0], "power-on refused 25: " + nibtoggle.RULES[25])
+        self.assertTrue(all("refused 13: " in line for line in lines[1:]))
+        self.assertEqual(held(self.part), before)
+
     def test_a_record_that_is_cut_off(self) -> None:
         before = held(self.part)
         _, error = self.nib("run", "t1", given=self.more, fail="read:1:%d" % errno.EIO)
         self.assertIn("standard input: Input/output error", error)
         self.assertEqual(held(self.part), before)
+
+
+class Errors(Nib):
+    """An error is one line on standard error that names the file and what is wrong; nothing is made or changed."""
+
+    def setUp(self) -> None:
+        super().setUp()
+        self.good("new", "t1")
+        page = parameter_page()
+        (self.folder / "crc").write_bytes(page[:255] + bytes((page[255] ^ 1,)))
+        (self.folder / "large").write_bytes(nibtoggle.PARTS["MT29F32G08ABAAAWP"].page)
+
+    def test_calls_that_there_are_not(self) -> None:
+        for words in ((), ("nonsense",), ("run",), ("run", "t1", "t1"), ("new",), ("new", "a", "b", "c"), ("text", "-x"),
+                      ("help", "me"), ("page",), ("parts", "T1")):
+            said, error = self.nib(*words)
+            self.assertEqual(said, b"")
+            self.assertTrue(error.startswith("nib: no such call; these are:\n  nib demo "), words)
+
+    def test_files_that_are_not_there(self) -> None:
+        before, there = held(self.part), sorted(path.name for path in self.folder.iterdir())
+        large = "an array of 4529848320 bytes is more than the 4194304 that nib holds; python3 -m nibtoggle has no such limit"
+        crc = "power-on refused 22: " + nibtoggle.RULES[22]
+        for words, told in ((("run", "none"), "none/page: No such file or directory"), (("new", "t1"), "t1/page: File exists"),
+                            (("explain", "none"), "none/page: No such file or directory"),
+                            (("page", "none"), "none: No such file or directory"), (("page", "t1"), "t1: Is a directory"),
+                            (("new", "no/such/dir"), "no/such/dir: No such file or directory"), (("new", "x", "crc"), "crc: " + crc),
+                            (("new", "x", "large"), "large: " + large), (("new", "x", "none"), "none: No such file or directory"),
+                            (("page", "a" * 5000), "a" * 4096 + ": File name too long"), (("new", "crc"), "crc/page: Not a directory")):
+            said, error = self.nib(*words, given=self.trace)
+            self.assertEqual((said, error), (b"", "nib: %s\n" % told), words)
+            self.assertEqual(held(self.part), before)
+            self.assertEqual(sorted(path.name for path in self.folder.iterdir()), there)
+        shutil.copy(self.folder / "crc", self.part / "page")
+        self.assertEqual(self.nib("run", "t1", given=self.trace), (b"", "nib: t1/page: %s\n" % crc))
+
+    def test_inputs_and_outputs_that_fail(self) -> None:
+        before = held(self.part)
+        for shell, told in (('"$0" run t1 < trace > /dev/full', "standard output: No space left on device"),
+                            ('"$0" run t1 <&-', "standard input: Bad file descriptor"),
+                            ('"$0" run t1 < t1', "standard input: Is a directory"),
+                            ('"$0" text < t1', "standard input: Is a directory"),
+                            ('"$0" text -d < t1', "standard input: Is a directory"),
+                            ('"$0" help > /dev/full', "standard output: No space left on device")):
+            (self.folder / "trace").write_bytes(self.trace)
+            done = subprocess.run(["sh", "-c", shell, str(NIB)], cwd=self.folder, stdout=subprocess.PIPE, stderr=subprocess.PIPE,
+                                  text=True)
+            self.assertEqual((done.stdout, done.stderr), ("", "nib: %s\n" % told), shell)
+            self.assertEqual(held(self.part), before)
+
+    def test_words_that_are_none(self) -> None:
+        for text, told in ((b"c zz", "place 3: 'zz': not two hex digits"), (b"80", "place 1: '80': no letter of c a d o f p x stands"),
+                           (b"c", "place 1: 'c': a letter with no value"), (b"f 256", "place 3: '256': not a decimal number, or too large"),
+                           (b"o 65536", "place 3: '65536': not a decimal number, or too large"), (b"c 800", "place 3: '800': not two"),
+                           (b"o -1", "place 3: '-1': not a decimal"), (b"x 7", "place 3: '7': not two hex digits")):
+            said, error = self.nib("text", given=b"c ff # before\n" + text)
+            self.assertEqual(said, b"")
+            self.assertTrue(error.startswith("nib: standard input, line 2, " + told), error)
 
 
 class Defects(Nib):

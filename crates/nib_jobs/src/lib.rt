@@ -13,6 +13,7 @@ use nib_print::pen::end_line;
 use nib_print::pen::flush;
 use nib_print::pen::ranked;
 use nib_print::pen::text;
+use nib_print::say::said;
 use nib_text::reading::up;
 use nib_told::lines::is_end;
 use nib_told::lines::line_at;
@@ -36,7 +37,9 @@ fn tell_line(t: Telling, part: Shape, trace: &[u8], out: &mut Paper) -> Telling 
     }
     let p = ranked(out, p, up(t.at));
     let p = text(out, p, b"  ");
-    let p = line_words(out, p, part.good, g, told, line.next);
+    let mut words = [0u8; 128];
+    let n = line_words(&mut words, 0, part.good, g, told, line.next);
+    let p = said(out, p, &words, n);
     let pen = end_line(out, p);
     Telling {
         pen,

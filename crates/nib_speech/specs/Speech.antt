@@ -103,21 +103,6 @@ wrongNumber wrong.NoBlock = 10
 wrongNumber wrong.NoPage = 11
 wrongNumber wrong.NoColumn = 12
 
-unfoldable pub wrongOf : ℕ → Wrong
-wrongOf n =
-    pick (eqb n 1) wrong.NoLetter
-    (pick (eqb n 2) wrong.NoValue
-    (pick (eqb n 3) wrong.NotByte
-    (pick (eqb n 4) wrong.NotNumber
-    (pick (eqb n 6) wrong.NoPart
-    (pick (eqb n 7) wrong.TooFew
-    (pick (eqb n 8) wrong.TooMany
-    (pick (eqb n 9) wrong.NoLun
-    (pick (eqb n 10) wrong.NoBlock
-    (pick (eqb n 11) wrong.NoPage
-    (pick (eqb n 12) wrong.NoColumn
-    wrong.Early))))))))))
-
 abbrev pub saidNumber : Said → ℕ
 saidNumber said.Nothing = 0
 saidNumber (said.Record k v) = 65536 + k * 256 + v

@@ -14,8 +14,7 @@ use nib_text::reading::Word;
 use nib_text::reading::Wrong;
 use nib_text::writing::Writing;
 ghost use mathlib.Core.Path.{_≡_};
-ghost use Rattle.target.specs.Pick.{pick};
-ghost use Rattle.nib_speech.specs.Speech.{bit, kindOf, firstOf, asksOf, readingOf, readingNumber, wrongNumber, wrongOf, saidNumber, writingOf, writingNumber};
+ghost use Rattle.nib_speech.specs.Speech.{bit, kindOf, firstOf, asksOf, readingOf, readingNumber, wrongNumber, saidNumber, writingOf, writingNumber};
 
 pub fn set_bit(b: bool) -> u8
     ensures { λ r. ⌜ r ≡ bit b ⌝ }
@@ -121,28 +120,6 @@ pub fn wrong_number(w: Wrong) -> u8
         Wrong::NoPage => 11,
         Wrong::NoColumn => 12,
     }
-}
-
-fn pick_wrong(b: bool, x: Wrong, y: Wrong) -> Wrong
-    ensures { λ r. ⌜ r ≡ pick b x y ⌝ }
-{
-    if b { x } else { y }
-}
-
-pub fn wrong_of(n: u8) -> Wrong
-    ensures { λ w. ⌜ w ≡ wrongOf n ⌝ }
-{
-    let w = pick_wrong(n == 12, Wrong::NoColumn, Wrong::Early);
-    let w = pick_wrong(n == 11, Wrong::NoPage, w);
-    let w = pick_wrong(n == 10, Wrong::NoBlock, w);
-    let w = pick_wrong(n == 9, Wrong::NoLun, w);
-    let w = pick_wrong(n == 8, Wrong::TooMany, w);
-    let w = pick_wrong(n == 7, Wrong::TooFew, w);
-    let w = pick_wrong(n == 6, Wrong::NoPart, w);
-    let w = pick_wrong(n == 4, Wrong::NotNumber, w);
-    let w = pick_wrong(n == 3, Wrong::NotByte, w);
-    let w = pick_wrong(n == 2, Wrong::NoValue, w);
-    pick_wrong(n == 1, Wrong::NoLetter, w)
 }
 
 pub fn said_number(s: Said) -> u64

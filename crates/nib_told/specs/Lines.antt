@@ -1,5 +1,5 @@
 -- A trace line by line (document 02, A5): a whole job, or what is none. Places count records from 0.
-use Prim.Native.Nat.{ℕ, _+_, _*_, _/_, _<_}
+use Prim.Native.Nat.{ℕ, zero, suc, _+_, _*_, _/_, _<_}
 use mathlib.Core.Path.{_≡_}
 use mathlib.Core.Bool.{Bool, true, false, _&&_, _||_}
 use mathlib.Core.List.{List}
@@ -28,6 +28,15 @@ isData k v = eqb k 2 || (eqb k 3 && eqb v 0)
 unfoldable pub timesOf : ℕ → ℕ → List ℕ → ℕ → ℕ
 timesOf k v trace at = pick (isData k v) (manyOf k (drop (2 * at) trace)) 1
 
+-- whether a program is open at a place, by the last command before it: 80h, or 85h. What a part would refuse is not looked at
+unfoldable pub inProgram : List ℕ → ℕ → Bool
+inProgram trace zero = false
+inProgram trace (suc n) = pick (eqb (kindAt trace n) 0) (eqb (valueAt trace n) 128 || eqb (valueAt trace n) 133) (inProgram trace n)
+
+-- 85h inside a program moves its column
+unfoldable pub moves : ℕ → ℕ → List ℕ → ℕ → Bool
+moves k v trace at = pick (eqb k 0 && eqb v 133) (inProgram trace at) false
+
 -- the first record of a job that is not whole, and where the misfit is: past the last record where the trace ends inside the job
 unfoldable pub begunAt : List ℕ → ℕ → ℕ → Line
 begunAt trace at p = record { told = told.Begun (kindAt trace at) (valueAt trace at) (leb (length trace) (2 * p)); next = p }
@@ -37,7 +46,8 @@ unfoldable pub aloneAt : List ℕ → ℕ → Line
 aloneAt trace at =
     pick (ltb at (length trace / 2))
     (record {
-      told = told.Event (kindAt trace at) (valueAt trace at) (timesOf (kindAt trace at) (valueAt trace at) trace at);
+      told = told.Event (kindAt trace at) (valueAt trace at) (timesOf (kindAt trace at) (valueAt trace at) trace at)
+          (moves (kindAt trace at) (valueAt trace at) trace at);
       next = at + timesOf (kindAt trace at) (valueAt trace at) trace at;
     })
     (record { told = told.Odd (kindAt trace at); next = at + 1 })
@@ -57,7 +67,7 @@ abbrev pub isEnd : Told → Bool
 isEnd told.End = true
 isEnd (told.Whole j n) = false
 isEnd (told.Begun k v e) = false
-isEnd (told.Event k v n) = false
+isEnd (told.Event k v n i) = false
 isEnd (told.Odd b) = false
 
 unfoldable pub Forward : Type 0

@@ -8,18 +8,30 @@ use target::picks::pick_number;
 ghost use mathlib.Core.Path.{_≡_};
 ghost use Prim.Native.Nat.{_+_, _/_, _<_, _≤_};
 ghost use lib.ListN.{length};
-ghost use Rattle.nib_told.specs.Lines.{isData, timesOf, begunAt, aloneAt, lineAt, isEnd};
+ghost use Rattle.nib_told.specs.Lines.{isData, timesOf, inProgram, moves, begunAt, aloneAt, lineAt, isEnd};
 
 // What stands at a place.
 pub enum Told {
     // no record: the trace ends there
     End,
     // a whole job; `count` is that of a program's bytes
-    Whole { job: Job, count: usize },
+    Whole {
+        job: Job,
+        count: usize,
+    },
     // the first record of a job that is not whole: the record at the next place doesn't fit it, or the trace ends there
-    Begun { kind: u8, value: u8, ends: bool },
-    // no job's record; data cycles of one kind in a row are told at once
-    Event { kind: u8, value: u8, times: usize },
+    Begun {
+        kind: u8,
+        value: u8,
+        ends: bool,
+    },
+    // no job's record; data cycles of one kind in a row are told at once. 85h inside a program moves its column
+    Event {
+        kind: u8,
+        value: u8,
+        times: usize,
+        inside: bool,
+    },
     // the odd last byte
     Odd(u8),
 }
@@ -46,6 +58,7 @@ pub fn is_end(told: Told) -> bool
             kind: _,
             value: _,
             times: _,
+            inside: _,
         } => false,
         Told::Odd(_) => false,
     }
@@ -81,6 +94,34 @@ fn times_of(kind: u8, value: u8, trace: &[u8], at: usize) -> usize
     pick_number(data, n, 1)
 }
 
+// Whether a program is open at a place, by the last command before it: 80h, or 85h. What a part would refuse is not known here.
+fn in_program(trace: &[u8], at: usize) -> bool
+    requires { ⌜ at ≤ length (now trace) / 2 ⌝ }
+    ensures { λ b. ⌜ b ≡ inProgram (now (trace .entry)) at ⌝ }
+{
+    let mut i = at;
+    while 0 < i {
+        i -= 1;
+        if byte_at(trace, 2 * i) == 0 {
+            let value = byte_at(trace, 2 * i + 1);
+            return (value == 0x80) | (value == 0x85);
+        }
+    }
+    false
+}
+
+// 85h inside a program. Only there the records before it are looked at, and no further back than to a command.
+fn moves(kind: u8, value: u8, trace: &[u8], at: usize) -> bool
+    requires { ⌜ at ≤ length (now trace) / 2 ⌝ }
+    ensures { λ b. ⌜ b ≡ moves kind value (now (trace .entry)) at ⌝ }
+{
+    if (kind == 0) & (value == 0x85) {
+        in_program(trace, at)
+    } else {
+        false
+    }
+}
+
 fn alone_at(trace: &[u8], at: usize) -> Line
     requires { ⌜ at ≤ length (now trace) / 2 ⌝ }
     ensures { λ l. ⌜ l ≡ aloneAt (now (trace .entry)) at ⌝ }
@@ -89,8 +130,14 @@ fn alone_at(trace: &[u8], at: usize) -> Line
     if at < trace.len() / 2 {
         let value = byte_at(trace, 2 * at + 1);
         let times = times_of(kind, value, trace, at);
+        let inside = moves(kind, value, trace, at);
         Line {
-            told: Told::Event { kind, value, times },
+            told: Told::Event {
+                kind,
+                value,
+                times,
+                inside,
+            },
             next: at + times,
         }
     } else {

@@ -1,141 +1,182 @@
-// Lines in words, as `program LUN 1 block 5 page 3, column 0, 3 bytes`.
+// Lines in words, as `program LUN 1 block 5 page 3, column 0, 3 bytes`: bytes on a desk.
 use crate::lines::Told;
 use crate::phrases::Amount;
 use crate::phrases::Phrase;
 use crate::phrases::Place;
 use crate::phrases::phrase_of;
 use jobs::reading::First;
-use nib_print::pen::Paper;
-use nib_print::pen::Pen;
-use nib_print::pen::byte;
-use nib_print::pen::hex;
-use nib_print::pen::text;
-use nib_print::say::event;
-use nib_print::say::with_number;
 use nib_text::reading::up;
+use nib_words::desk::byte;
+use nib_words::desk::hex;
+use nib_words::desk::put_if;
+use nib_words::desk::say;
+use nib_words::desk::say_if;
+use nib_words::say::event;
+use nib_words::say::with_number;
+use nib_words::say::with_number_if;
 use target::Geometry;
+ghost use mathlib.Core.Path.{_≡_};
+ghost use Rattle.nib_words.specs.Desk.{Desk, wrote};
+ghost use Rattle.nib_told.specs.Words.{nameWords, rowWords, blockWords, pageWords, placeWords, columnWords, countWords, bytesWords, phraseWords, begunWords, dataWords, timesWords, aloneWords, oddWords, lineWords};
 
-fn name_words(out: &mut Paper, p: Pen, f: First) -> Pen {
+fn name_words(out: &mut [u8], at: usize, f: First) -> usize
+    ensures { λ r. ⌜ _≡_ {A = Desk} (record { room = now (out .exit); at = r }) (wrote (record { room = now (out .entry); at = at }) (nameWords f)) ⌝ }
+{
     match f {
-        First::Nothing => p,
-        First::Read => text(out, p, b"read"),
-        First::ReadOut => text(out, p, b"read-out"),
-        First::Program => text(out, p, b"program"),
-        First::Erase => text(out, p, b"erase"),
-        First::Status => text(out, p, b"status"),
+        First::Nothing => at,
+        First::Read => say(out, at, b"read"),
+        First::ReadOut => say(out, at, b"read-out"),
+        First::Program => say(out, at, b"program"),
+        First::Erase => say(out, at, b"erase"),
+        First::Status => say(out, at, b"status"),
     }
 }
 
 // A row as its three bytes.
-fn row_words(out: &mut Paper, p: Pen, row: usize) -> Pen {
-    let p = text(out, p, b" row ");
-    let p = hex(out, p, (row / 65536 % 256) as u8, b'A');
-    let p = hex(out, p, (row / 256 % 256) as u8, b'A');
-    byte(out, p, (row % 256) as u8)
+fn row_words(out: &mut [u8], at: usize, row: usize) -> usize
+    ensures { λ r. ⌜ _≡_ {A = Desk} (record { room = now (out .exit); at = r }) (wrote (record { room = now (out .entry); at = at }) (rowWords row)) ⌝ }
+{
+    let at = say(out, at, b" row ");
+    let at = hex(out, at, (row / 65536 % 256) as u8, false);
+    let at = hex(out, at, (row / 256 % 256) as u8, false);
+    byte(out, at, (row % 256) as u8)
 }
 
-fn block_words(out: &mut Paper, p: Pen, lun: usize, block: usize) -> Pen {
-    let p = with_number(out, p, b" LUN ", lun);
-    with_number(out, p, b" block ", block)
+fn block_words(out: &mut [u8], at: usize, lun: usize, block: usize) -> usize
+    ensures { λ r. ⌜ _≡_ {A = Desk} (record { room = now (out .exit); at = r }) (wrote (record { room = now (out .entry); at = at }) (blockWords lun block)) ⌝ }
+{
+    let at = with_number(out, at, b" LUN ", lun);
+    with_number(out, at, b" block ", block)
 }
 
-fn place_words(out: &mut Paper, p: Pen, place: Place) -> Pen {
+fn page_words(out: &mut [u8], at: usize, lun: usize, block: usize, page: usize) -> usize
+    ensures { λ r. ⌜ _≡_ {A = Desk} (record { room = now (out .exit); at = r }) (wrote (record { room = now (out .entry); at = at }) (pageWords lun block page)) ⌝ }
+{
+    let at = block_words(out, at, lun, block);
+    with_number(out, at, b" page ", page)
+}
+
+fn place_words(out: &mut [u8], at: usize, place: Place) -> usize
+    ensures { λ r. ⌜ _≡_ {A = Desk} (record { room = now (out .exit); at = r }) (wrote (record { room = now (out .entry); at = at }) (placeWords place)) ⌝ }
+{
     match place {
-        Place::Row(row) => row_words(out, p, row),
-        Place::Page { lun, block, page } => {
-            let p = block_words(out, p, lun, block);
-            with_number(out, p, b" page ", page)
-        }
-        Place::Block { lun, block } => block_words(out, p, lun, block),
-        Place::Lun(lun) => with_number(out, p, b" LUN ", lun),
+        Place::Row(row) => row_words(out, at, row),
+        Place::Page { lun, block, page } => page_words(out, at, lun, block, page),
+        Place::Block { lun, block } => block_words(out, at, lun, block),
+        Place::Lun(lun) => with_number(out, at, b" LUN ", lun),
     }
 }
 
-fn column_words(out: &mut Paper, p: Pen, column: Amount) -> Pen {
+fn column_words(out: &mut [u8], at: usize, column: Amount) -> usize
+    ensures { λ r. ⌜ _≡_ {A = Desk} (record { room = now (out .exit); at = r }) (wrote (record { room = now (out .entry); at = at }) (columnWords column)) ⌝ }
+{
     match column {
-        Amount::Nothing => p,
-        Amount::Number(n) => with_number(out, p, b", column ", n),
+        Amount::Nothing => at,
+        Amount::Number(n) => with_number(out, at, b", column ", n),
     }
 }
 
 // ', 3 bytes'
-fn count_words(out: &mut Paper, p: Pen, n: usize) -> Pen {
-    let p = with_number(out, p, b", ", n);
-    if n == 1 {
-        text(out, p, b" byte")
-    } else {
-        text(out, p, b" bytes")
-    }
+fn count_words(out: &mut [u8], at: usize, n: usize) -> usize
+    ensures { λ r. ⌜ _≡_ {A = Desk} (record { room = now (out .exit); at = r }) (wrote (record { room = now (out .entry); at = at }) (countWords n)) ⌝ }
+{
+    let at = with_number(out, at, b", ", n);
+    let at = say(out, at, b" byte");
+    put_if(out, at, !(n == 1), b's')
 }
 
-fn bytes_words(out: &mut Paper, p: Pen, bytes: Amount) -> Pen {
+fn bytes_words(out: &mut [u8], at: usize, bytes: Amount) -> usize
+    ensures { λ r. ⌜ _≡_ {A = Desk} (record { room = now (out .exit); at = r }) (wrote (record { room = now (out .entry); at = at }) (bytesWords bytes)) ⌝ }
+{
     match bytes {
-        Amount::Nothing => p,
-        Amount::Number(n) => count_words(out, p, n),
+        Amount::Nothing => at,
+        Amount::Number(n) => count_words(out, at, n),
     }
 }
 
-fn phrase_words(out: &mut Paper, p: Pen, said: Phrase) -> Pen {
+fn phrase_words(out: &mut [u8], at: usize, said: Phrase) -> usize
+    ensures { λ r. ⌜ _≡_ {A = Desk} (record { room = now (out .exit); at = r }) (wrote (record { room = now (out .entry); at = at }) (phraseWords said)) ⌝ }
+{
     let place = said.place;
     let column = said.column;
     let bytes = said.bytes;
     let name = said.name;
-    let p = name_words(out, p, name);
-    let p = place_words(out, p, place);
-    let p = column_words(out, p, column);
-    let p = bytes_words(out, p, bytes);
-    if said.there {
-        p
-    } else {
-        text(out, p, b"; the part has no such place")
-    }
+    let at = name_words(out, at, name);
+    let at = place_words(out, at, place);
+    let at = column_words(out, at, column);
+    let at = bytes_words(out, at, bytes);
+    say_if(out, at, !said.there, b"; the part has no such place")
 }
 
 // A record that begins a job which is not whole; records count from 1 in words.
-fn begun_words(out: &mut Paper, p: Pen, kind: u8, value: u8, ends: bool, misfit: usize) -> Pen {
-    let p = text(out, p, b"no whole job: ");
-    let p = event(out, p, false, kind, value);
-    if ends {
-        return text(out, p, b"; the trace ends inside it");
+fn begun_words(out: &mut [u8], at: usize, kind: u8, value: u8, ends: bool, misfit: usize) -> usize
+    ensures { λ r. ⌜ _≡_ {A = Desk} (record { room = now (out .exit); at = r }) (wrote (record { room = now (out .entry); at = at }) (begunWords kind value ends misfit)) ⌝ }
+{
+    let at = say(out, at, b"no whole job: ");
+    let at = event(out, at, false, kind, value, false);
+    let at = say_if(out, at, ends, b"; the trace ends inside it");
+    let at = with_number_if(out, at, !ends, b"; record ", up(misfit));
+    say_if(out, at, !ends, b" doesn't fit it")
+}
+
+// Data cycles in a row.
+fn data_words(out: &mut [u8], at: usize, kind: u8, times: usize) -> usize
+    ensures { λ r. ⌜ _≡_ {A = Desk} (record { room = now (out .exit); at = r }) (wrote (record { room = now (out .entry); at = at }) (dataWords kind times)) ⌝ }
+{
+    let at = say_if(out, at, kind == 2, b"data in");
+    let at = say_if(out, at, !(kind == 2), b"data out");
+    count_words(out, at, times)
+}
+
+fn times_words(out: &mut [u8], at: usize, kind: u8, value: u8, times: usize, inside: bool) -> usize
+    ensures { λ r. ⌜ _≡_ {A = Desk} (record { room = now (out .exit); at = r }) (wrote (record { room = now (out .entry); at = at }) (timesWords kind value times inside)) ⌝ }
+{
+    if times <= 1 {
+        event(out, at, false, kind, value, inside)
+    } else {
+        data_words(out, at, kind, times)
     }
-    let p = with_number(out, p, b"; record ", up(misfit));
-    text(out, p, b" doesn't fit it")
 }
 
 // A finish event is no bus cycle, and stands between jobs or inside them.
-fn event_words(out: &mut Paper, p: Pen, kind: u8, value: u8, times: usize) -> Pen {
-    if kind == 4 {
-        return event(out, p, false, kind, value);
-    }
-    let p = text(out, p, b"no job: ");
-    if times <= 1 {
-        return event(out, p, false, kind, value);
-    }
-    let p = if kind == 2 {
-        text(out, p, b"data in")
-    } else {
-        text(out, p, b"data out")
-    };
-    count_words(out, p, times)
+fn alone_words(out: &mut [u8], at: usize, kind: u8, value: u8, times: usize, inside: bool) -> usize
+    ensures { λ r. ⌜ _≡_ {A = Desk} (record { room = now (out .exit); at = r }) (wrote (record { room = now (out .entry); at = at }) (aloneWords kind value times inside)) ⌝ }
+{
+    let at = say_if(out, at, !(kind == 4), b"no job: ");
+    times_words(out, at, kind, value, times, inside)
 }
 
-// A line in words; `next` is where the next one begins.
+fn odd_words(out: &mut [u8], at: usize, b: u8) -> usize
+    ensures { λ r. ⌜ _≡_ {A = Desk} (record { room = now (out .exit); at = r }) (wrote (record { room = now (out .entry); at = at }) (oddWords b)) ⌝ }
+{
+    let at = say(out, at, b"no job: ");
+    event(out, at, true, b, 0, false)
+}
+
+// A line in words; `next` is where the next one begins. 128 bytes are room enough.
 pub fn line_words(
-    out: &mut Paper,
-    p: Pen,
+    out: &mut [u8],
+    at: usize,
     known: bool,
     g: Geometry,
     told: Told,
     next: usize,
-) -> Pen {
+) -> usize
+    ensures { λ r. ⌜ _≡_ {A = Desk} (record { room = now (out .exit); at = r }) (wrote (record { room = now (out .entry); at = at }) (lineWords known g told next)) ⌝ }
+{
     match told {
-        Told::End => p,
-        Told::Whole { job, count } => phrase_words(out, p, phrase_of(known, g, job, count)),
-        Told::Begun { kind, value, ends } => begun_words(out, p, kind, value, ends, next),
-        Told::Event { kind, value, times } => event_words(out, p, kind, value, times),
-        Told::Odd(b) => {
-            let p = text(out, p, b"no job: ");
-            event(out, p, true, b, 0)
+        Told::End => at,
+        Told::Whole { job, count } => {
+            let phrase = phrase_of(known, g, job, count);
+            phrase_words(out, at, phrase)
         }
+        Told::Begun { kind, value, ends } => begun_words(out, at, kind, value, ends, next),
+        Told::Event {
+            kind,
+            value,
+            times,
+            inside,
+        } => alone_words(out, at, kind, value, times, inside),
+        Told::Odd(b) => odd_words(out, at, b),
     }
 }

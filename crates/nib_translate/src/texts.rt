@@ -23,9 +23,11 @@ use nib_print::pen::failed;
 use nib_print::pen::flush;
 use nib_print::pen::put;
 use nib_print::pen::text;
+use nib_print::say::said;
 use nib_print::say::with_number;
-use nib_speech::piece_written;
-use nib_speech::reason;
+use nib_speech::pieces::piece_words;
+use nib_speech::pieces::reason;
+use nib_speech::states::wrong_number;
 use nib_text::job_words::Asks;
 use nib_text::reading::Reading;
 use nib_text::reading::Said;
@@ -36,6 +38,7 @@ use nib_text::reading::is_wrong;
 use nib_text::reading::next;
 use nib_text::reading::spot_begun;
 use nib_text::reading::spot_next;
+use nib_text::writing::Piece;
 use nib_text::writing::Writing;
 use nib_text::writing::writing_begun;
 use nib_text::writing::wrote_end;
@@ -183,14 +186,18 @@ fn add_named(out: &mut Paper, t: Text, named: NamedJob, data: &Data, room: &mut 
     }
 }
 
-fn reason_said(out: &mut Paper, p: Pen, said: Said) -> Pen {
-    match said {
+fn reason_said(out: &mut Paper, p: Pen, read: Said) -> Pen {
+    match read {
         Said::Nothing => p,
         Said::Record { kind: _, value: _ } => p,
         Said::Byte(_) => p,
         Said::Outs(_) => p,
         Said::Value { of: _, number: _ } => p,
-        Said::Wrong(why) => reason(out, p, why),
+        Said::Wrong(why) => {
+            let mut words = [0u8; 128];
+            let n = reason(&mut words, 0, wrong_number(why));
+            said(out, p, &words, n)
+        }
     }
 }
 
@@ -354,6 +361,12 @@ pub struct Back {
     pub pen: Pen,
     pub input: i32,
     pub going: bool,
+}
+
+fn piece_written(out: &mut Paper, p: Pen, piece: Piece) -> Pen {
+    let mut words = [0u8; 128];
+    let n = piece_words(&mut words, 0, piece);
+    said(out, p, &words, n)
 }
 
 fn back_byte(t: Back, b: u8, out: &mut Paper) -> Back {

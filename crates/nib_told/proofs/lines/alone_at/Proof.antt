@@ -24,22 +24,27 @@ byte-at-requires-2 c κs = search needs
 times-of-requires : tie.Need-times-of-requires
 times-of-requires c κs = search needs
 
-add-t10 : tie.Need-add-t10
-add-t10 c = search needs
+moves-requires : tie.Need-moves-requires
+moves-requires c κs = search needs
 
-add-t14 : tie.Need-add-t14
-add-t14 c = search needs
+add-t11 : tie.Need-add-t11
+add-t11 c = search needs
+
+add-t15 : tie.Need-add-t15
+add-t15 c = search needs
 
 returns : tie.Need-returns
 unfolding aloneAt
 returns c =
     let c1 = c .before in
-    let c3 = c1 .before .before in
+    let c2 = c1 .before in
+    let c4 = c2 .before .before in
     rw (
-      lt-ltb _ _ (c1 .before .if1 .taken),
-      c .times-of .ensures .0,
-      c1 .byte-at2 .ensures,
-      c3 .byte-at .ensures,
+      lt-ltb _ _ (c2 .before .if1 .taken),
+      c .moves .ensures,
+      c1 .times-of .ensures .0,
+      c2 .byte-at2 .ensures,
+      c4 .byte-at .ensures,
     )
 
 returns-2 : tie.Need-returns-2
@@ -57,7 +62,8 @@ alone-at-spec =
     add-byte-at
     byte-at-requires-2
     times-of-requires
-    add-t10
-    add-t14
+    moves-requires
+    add-t11
+    add-t15
     returns
     returns-2)
