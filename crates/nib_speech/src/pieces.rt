@@ -32,7 +32,7 @@ pub fn reason(out: &mut [u8], at: usize, n: u8) -> usize
         out,
         at,
         n == 5,
-        b"a letter, where the one before it wants a value; a byte has two hex digits",
+        b"a letter or a job's word, where the letter before it wants a value; a byte has two hex digits",
     );
     let at = say_if(
         out,
@@ -40,12 +40,7 @@ pub fn reason(out: &mut [u8], at: usize, n: u8) -> usize
         n == 6,
         b"a job's word, which needs a part: text DIR",
     );
-    let at = say_if(
-        out,
-        at,
-        n == 7,
-        b"the job before its end wants a value more",
-    );
+    let at = say_if(out, at, n == 7, b"the job wants a value more");
     let at = say_if(out, at, n == 8, b"a value more than the job takes");
     let at = say_if(out, at, n == 9, b"the part has no such LUN");
     let at = say_if(out, at, n == 10, b"the part has no such block");
