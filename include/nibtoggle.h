@@ -43,8 +43,8 @@ extern "C" {
 
 /* The version of this header; nib_version() is that of the library, and has the same number: major, minor and patch,
  * a byte each. While major is 0, a change of minor may change the record. */
-#define NIB_VERSION "0.2.0"
-#define NIB_VERSION_NUMBER UINT32_C(512)
+#define NIB_VERSION "0.3.0"
+#define NIB_VERSION_NUMBER UINT32_C(768)
 uint32_t nib_version(void);
 
 /* ---- The record ----
@@ -438,6 +438,17 @@ static inline size_t nib_page_start(nib_part p, size_t lun, size_t block, size_t
     return ((lun * p.blocks + block) * p.pages + page) * p.page;
 }
 static inline size_t nib_register_start(nib_part p, size_t lun) { return lun * p.page; }
+
+/* For an array that is made anew: the makers' marks of its blocks. The first spare byte of a block's first page becomes
+ * 00h where its flag is set, and FFh where it is not. A part with no spare bytes has no place for them, and its array
+ * stays as it is. */
+static inline void nib_put_marks(const uint8_t *page, uint8_t *array, const uint8_t *flags)
+{
+    nib_part p = nib_part_of(page);
+    size_t spare = (size_t)page[84] | (size_t)page[85] << 8;
+    for (size_t i = 0; spare > 0 && i < nib_flags_length(p); i++)
+        array[i * p.pages * p.page + p.page - spare] = flags[i] ? 0x00 : 0xFF;
+}
 
 /* Bits of a row address's field that holds 0 to n - 1. */
 static inline unsigned nib_field_bits(size_t n)

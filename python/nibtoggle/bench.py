@@ -17,6 +17,9 @@ from .part import PAGE_LENGTH, Part, fields_outside, parameter_page
 from .replies import ADDRESS, COMMAND, DATA_IN, DATA_OUT, FINISH, PROTECT, Refused, Replies, Reply, Status
 
 Store = Union[None, Buffer, str, "os.PathLike[str]"]
+#: enum nib_output of the header: a LUN's status comes out.
+_STATUS_OUTPUT = 3
+
 
 class UnwrittenZeros(UserWarning):
     """A new array is so large that it is a sparse file: what nobody wrote is 00h, and not FFh as in an erased part."""
@@ -57,7 +60,13 @@ class Bench:
       here is erased, all FFh, up to 64 MiB. A longer one is a sparse file that reads 00h where nobody wrote, and UnwrittenZeros is
       warned with its name: erase a block before programming it, as a loader does with a part it knows nothing of.
     - `counts`, `flags`: buffers of the right length, used in place (bytes are copied); None for all 0: nothing programmed, no bad
-      block.
+      block. In place of `flags`, `bad` names the factory bad blocks, as (LUN, block).
+
+    With `marks` an array that is made here has the makers' marks: the first spare byte of a block's first page is 00h where the
+    block is bad (and FFh where it is good, in a large array too).
+
+    With `autofinish` a LUN that works is let finish by itself once its status byte has been read so many times: a loader that
+    polls needs no `finish`.
 
     `array`, `registers`, `counts`, `flags` and `page` are memoryviews of what the library works on, and may be read and written.
 
@@ -67,8 +76,13 @@ class Bench:
     """
 
     def __init__(self, page: bytes, device_id: int, *, array: Store = None, counts: Optional[Buffer] = None,
-                 flags: Optional[Buffer] = None, strict: bool = True, library: Optional[Library] = None) -> None:
+                 flags: Optional[Buffer] = None, bad: Iterable[Tuple[int, int]] = (), marks: bool = False,
+                 autofinish: Optional[int] = None, strict: bool = True, library: Optional[Library] = None) -> None:
         self.strict = strict
+        #: How many status bytes of a working LUN are read before it finishes by itself; None for never.
+        self.autofinish = autofinish if autofinish is None else checks.number("autofinish", autofinish, 1, 1 << 40)
+        self._polls = [0, 0, 0, 0]
+        self._fresh = False
         self.device_id = checks.byte("device ID", device_id)
         self.replies = Replies(b"")
         self._library = library if library is not None else Library.found()
@@ -84,12 +98,15 @@ class Bench:
         self._array = _Lent(bytearray() if refused else self._store(array, part.array_length))
         self._registers = _Lent(bytearray(part.registers_length))
         self._counts = _Lent(counts if counts is not None else bytearray(part.counts_length))
-        self._flags = _Lent(flags if flags is not None else bytearray(part.flags_length))
+        self._flags = _Lent(_flags(part, flags, bad))
+        if marks and self._fresh:
+            for place, mark in part.marks(self.flags):
+                self.array[place] = mark
         self.power_on()
 
     @classmethod
     def t1(cls, *, strict: bool = True, **options: object) -> "Bench":
-        """The worked part T1: 512+16 bytes a page, 4 pages a block, 8 blocks, 2 LUNs, every option. Other words go to Bench."""
+        """The worked part T1: 512+16 bytes a page, 4 pages a block, 8 blocks, 2 LUNs; no copyback. Other words go to Bench."""
         return cls(parameter_page(), 0x68, strict=strict, **options)  # type: ignore[arg-type]
 
     @classmethod
@@ -114,17 +131,20 @@ class Bench:
 
     @classmethod
     def new(cls, path: Union[str, "os.PathLike[str]"], page: Union[str, bytes] = "T1", device_id: Optional[int] = None, *,
-            flags: Optional[bytes] = None, strict: bool = True, library: Optional[Library] = None) -> "Bench":
-        """A new part folder, opened: `page` is the name of a part (`nibtoggle.PARTS`), 256 parameter bytes, or an answer to ECh of 768.
+            flags: Optional[bytes] = None, bad: Iterable[Tuple[int, int]] = (), marks: bool = False, strict: bool = True,
+            library: Optional[Library] = None) -> "Bench":
+        """A new part folder, opened: `page` is the name of a part (`nibtoggle.PARTS`), 256 parameter bytes, or an answer to
+        ECh of 768. `flags`, `bad` and `marks` are Bench's.
 
         A page does not say its part's device ID: it is 00h unless it is given, or the part has a name. No file is written over.
         """
         where = Path(path)
-        make_folder(where, page, device_id, flags, library)
+        make_folder(where, page, device_id, flags, library, bad, marks)
         return cls.open(where, strict=strict, library=library)
 
     def _store(self, array: Store, length: int) -> Buffer:
         if array is None and length <= LARGE:
+            self._fresh = True
             return bytearray(b"\xFF") * length
         if array is not None and not isinstance(array, (str, os.PathLike)):
             return array
@@ -137,6 +157,7 @@ class Bench:
             if length == 0:
                 return bytearray()
             self._map = mmap.mmap(file.fileno(), length)
+        self._fresh = there == 0
         if there == 0 and length <= LARGE:
             self._map[:] = b"\xFF" * length
         elif there == 0:
@@ -193,6 +214,10 @@ class Bench:
         """The LUN works: it waits for `finish`."""
         return bool(self._target.working[checks.lun(self.part, lun)] == 1)
 
+    def copyback_open(self, lun: int) -> bool:
+        """A copyback is open on the LUN: `copyback_read` has read a page, and `copyback_program` may program it."""
+        return bool(self._target.copyback[checks.lun(self.part, lun)] == 1)
+
     # ---- calls of the library
 
     def power_on(self) -> int:
@@ -232,6 +257,7 @@ class Bench:
             self._target, bytes(records), len(records), room, need,
             *(word for b in buffers for word in (b.place, b.length)))
         self.replies = Replies(room.raw if room is not None else b"", bytes(records))
+        self._polled()
         return self.replies
 
     def event(self, kind: int, value: int) -> Reply:
@@ -241,6 +267,7 @@ class Bench:
         number: int = self._library.event(
             self._target, *record, *(word for b in buffers for word in (b.place, b.length)))
         self.replies = Replies(number.to_bytes(2, "big"), record)
+        self._polled()
         return self.replies[0]
 
     def events(self, events: Iterable[Tuple[int, int]]) -> Replies:
@@ -254,6 +281,20 @@ class Bench:
         buffer, start, length = number >> 60, number >> 30 & 0x3FFFFFFF, number & 0x3FFFFFFF
         lent = self.registers if buffer == 1 else self.page
         return Rest(("", "registers", "parameters")[buffer], start, lent[start:start + length])
+
+    def _polled(self) -> None:
+        """A call that ended in status bytes of a working LUN: after so many the LUN finishes, if `autofinish` says so."""
+        if self.autofinish is None or self._target.output != _STATUS_OUTPUT:
+            return
+        lun = int(self._target.output_lun)
+        firsts = self.replies.raw[::2]
+        read = len(firsts) - len(firsts.rstrip(b"\x01"))
+        self._polls[lun] = self._polls[lun] + read if self.working(lun) else 0
+        if self._polls[lun] >= self.autofinish:
+            self._polls[lun] = 0
+            kept = self.replies
+            self.event(FINISH, lun)
+            self.replies = kept
 
     def _run(self, records: bytes) -> Replies:
         replies = self.trace(records)
@@ -309,6 +350,19 @@ class Bench:
         """00h, five addresses, 30h: the page goes into the LUN's register, and output will begin at the column once it has finished."""
         row = checks.row(self.part, lun, block, page, row)
         return self._job(self._records_of("read", row, column), row, finish)
+
+    def copyback_read(self, lun: Optional[int] = None, block: Optional[int] = None, page: Optional[int] = None, column: int = 0, *,
+                      row: Optional[int] = None, finish: bool = True) -> Replies:
+        """00h, five addresses, 35h: as `load`, and a copyback is open on the LUN; then the LUN's finish, unless it is left working."""
+        row = checks.row(self.part, lun, block, page, row)
+        return self._job(self._records_of("read", row, column)[:-2] + _command(0x35), row, finish)
+
+    def copyback_program(self, lun: Optional[int] = None, block: Optional[int] = None, page: Optional[int] = None, data: bytes = b"",
+                         column: int = 0, *, row: Optional[int] = None, finish: bool = True) -> Replies:
+        """85h, five addresses, data in, 10h: what the LUN's register holds is programmed, with the data over it from the column on; then
+        the LUN's finish, unless it is left working. A failed program is accepted: ask `status`."""
+        row = checks.row(self.part, lun, block, page, row)
+        return self._job(_command(0x85) + self._records_of("program", row, column, data=bytes(data))[2:], row, finish)
 
     def read_page(self, lun: Optional[int] = None, block: Optional[int] = None, page: Optional[int] = None, column: int = 0,
                   count: Optional[int] = None, *, row: Optional[int] = None) -> bytes:
@@ -450,17 +504,26 @@ def page_named(page: Union[str, bytes], device_id: Optional[int] = None) -> Tupl
     return parts.page_of(bytes(page)), 0 if device_id is None else checks.byte("device ID", device_id)
 
 
+def _flags(part: Part, flags: Optional[Buffer], bad: Iterable[Tuple[int, int]]) -> Buffer:
+    """The flags as they are given, or those of the blocks that are."""
+    blocks = list(bad)
+    if flags is not None and blocks:
+        raise TypeError("flags= and bad= say the same: give one of them")
+    return part.flags_of(blocks) if flags is None else flags
+
+
 def make_folder(path: Path, page: Union[str, bytes], device_id: Optional[int] = None, flags: Optional[bytes] = None,
-                library: Optional[Library] = None) -> None:
+                library: Optional[Library] = None, bad: Iterable[Tuple[int, int]] = (), marks: bool = False) -> None:
     """A new part folder (`Bench.new` opens it too). Nothing is made where power-on would refuse the page or the flags."""
     bytes_, number = page_named(page, device_id)
     refusal = page_refusal(bytes_, library)
     if refusal is not None:
         raise refusal
     due = Part.of(bytes_).flags_length
-    if flags is not None and (len(flags) != due or max(flags) > 1):
+    held = bytes(_flags(Part.of(bytes_), flags, bad))
+    if len(held) != due or max(held) > 1:
         raise ValueError("flags are %d bytes, 0 or 1 each" % due)
-    if folder.make(path, bytes_, number, flags or b""):
+    if folder.make(path, bytes_, number, held, marks):
         _warn_of_zeros(str(path / "array"), Part.of(bytes_).array_length, 4)
 
 

@@ -5,7 +5,7 @@ import ctypes
 import mmap
 import os
 from pathlib import Path
-from typing import Iterator, List, NamedTuple, Optional, Sequence, Set, Tuple, Union
+from typing import BinaryIO, Iterable, Iterator, List, NamedTuple, Optional, Sequence, Set, Tuple, Union
 
 from .part import PAGE_LENGTH, Part
 
@@ -69,25 +69,24 @@ def read(path: Path, page: bytes, device_id: int) -> Files:
         raise
 
 
-def make(path: Path, page: bytes, device_id: int, flags: Sequence[int] = ()) -> bool:
-    """A new folder, or the files of one that stands empty; none is written over, and after a failure nothing is left. True where the array
-    is so large that its unwritten bytes are 00h."""
+def make(path: Path, page: bytes, device_id: int, flags: Sequence[int] = (), marks: bool = False) -> bool:
+    """A new folder, or the files of one that stands empty; none is written over, and after a failure nothing is left. With
+    `marks` the array has the makers' marks of bad blocks. True where it is so large that its unwritten bytes are 00h."""
     part = Part.of(page)
+    held = bytes(flags) or bytes(part.flags_length)
     fresh = not path.exists()
     if fresh:
         path.mkdir()
     made: List[Path] = []
     try:
-        for name, contents in (("page", page), ("id", bytes((device_id,))), ("array", None), ("counts", bytes(part.counts_length)),
-                               ("flags", bytes(flags) or bytes(part.flags_length))):
+        for name, contents in (("page", page), ("id", bytes((device_id,))), ("array", None),
+                               ("counts", bytes(part.counts_length)), ("flags", held)):
             with open(path / name, "xb") as file:
                 made.append(path / name)
                 if contents is not None:
                     file.write(contents)
-                elif part.array_length <= LARGE:
-                    file.write(b"\xFF" * part.array_length)
                 else:
-                    file.truncate(part.array_length)
+                    _write_array(file, part, part.marks(held) if marks else ())
                 file.flush()
                 os.fsync(file.fileno())
     except BaseException:
@@ -97,6 +96,17 @@ def make(path: Path, page: bytes, device_id: int, flags: Sequence[int] = ()) -> 
             path.rmdir()
         raise
     return part.array_length > LARGE
+
+
+def _write_array(file: BinaryIO, part: Part, marks: Iterable[Tuple[int, int]]) -> None:
+    """An erased array, or, where it is large, one whose bytes are 00h; and the marks of its blocks."""
+    if part.array_length <= LARGE:
+        file.write(b"\xFF" * part.array_length)
+    else:
+        file.truncate(part.array_length)
+    for place, mark in marks:
+        file.seek(place)
+        file.write(bytes((mark,)))
 
 
 def _with_data(base: int, length: int) -> Set[int]:

@@ -2,7 +2,7 @@
 from __future__ import annotations
 
 from dataclasses import dataclass
-from typing import List, Tuple
+from typing import Iterable, Iterator, List, Tuple
 
 from . import checks
 
@@ -11,7 +11,7 @@ PAGE_LENGTH = 256
 #: Bits of the feature word (bytes 6 and 7) that the model knows.
 FEATURE_MORE_LUNS, FEATURE_PROGRAM_CLEAR = 1 << 1, 1 << 8
 #: Bits of the optional-command word (bytes 8 and 9).
-OPTIONAL_FEATURES, OPTIONAL_STATUS_78H, OPTIONAL_COLUMN_06H = 1 << 2, 1 << 3, 1 << 6
+OPTIONAL_FEATURES, OPTIONAL_STATUS_78H, OPTIONAL_COPYBACK, OPTIONAL_COLUMN_06H = 1 << 2, 1 << 3, 1 << 4, 1 << 6
 
 
 #: Numbers of a parameter page: name, first byte, how many bytes, and the model's limits (house limits of the requirements).
@@ -48,13 +48,15 @@ def fields_outside(page: bytes) -> List[str]:
 
 @dataclass(frozen=True)
 class Part:
-    """How large a part is: P (data and spare bytes of a page), pages a block, blocks a LUN, LUNs, programs a page."""
+    """How large a part is: P (data and spare bytes of a page), pages a block, blocks a LUN, LUNs, programs a page; and how
+    many of P are spare."""
 
     page_size: int
     pages: int
     blocks: int
     luns: int
     programs: int
+    spare: int = 0
 
     @classmethod
     def of(cls, page: bytes) -> "Part":
@@ -63,7 +65,8 @@ class Part:
         def number(first: int, last: int) -> int:
             return int.from_bytes(page[first:last + 1], "little")
 
-        return cls(number(80, 83) + number(84, 85), number(92, 95), number(96, 99), number(100, 100), number(110, 110))
+        return cls(number(80, 83) + number(84, 85), number(92, 95), number(96, 99), number(100, 100), number(110, 110),
+                   number(84, 85))
 
     @property
     def array_length(self) -> int:
@@ -99,6 +102,23 @@ class Part:
         """Where the page starts in the array. ValueError where there is none."""
         return self.page_number(lun, block, page) * self.page_size
 
+    def flags_of(self, bad: Iterable[Tuple[int, int]]) -> bytearray:
+        """A flag for each block: 1 for those that are given, by LUN and block."""
+        flags = bytearray(self.flags_length)
+        for lun, block in bad:
+            self._look(lun, block, 0)
+            flags[lun * self.blocks + block] = 1
+        return flags
+
+    def marks(self, flags: Iterable[int]) -> Iterator[Tuple[int, int]]:
+        """Where the array has a block's mark, as makers put it, and the mark: the first spare byte of the block's first page is
+        00h in a bad block, and FFh in a good one."""
+        if self.spare == 0:
+            raise ValueError("the part has no spare bytes, and so no place for a block's mark")
+        size = self.pages * self.page_size
+        for number, flag in enumerate(flags):
+            yield number * size + self.page_size - self.spare, 0x00 if flag else 0xFF
+
     def _look(self, lun: int, block: int, page: int) -> None:
         checks.lun(self, lun)
         checks.number("block", block, 0, self.blocks - 1)
@@ -117,19 +137,22 @@ def crc(message: bytes) -> int:
 
 def parameter_page(data: int = 512, spare: int = 16, pages: int = 4, blocks: int = 8, luns: int = 2, programs: int = 4, *,
                    maker: int = 0x2C, program_clear: bool = True, features: bool = True, status_78h: bool = True,
-                   column_06h: bool = True) -> bytes:
-    """256 parameter bytes of a part, with their CRC. What is not given is as in the worked part T1, with every option.
+                   column_06h: bool = True, copyback: bool = False, more_features: int = 0, more_options: int = 0) -> bytes:
+    """256 parameter bytes of a part, with their CRC. What is not given is as in the worked part T1.
 
+    `more_features` and `more_options` are bits of the feature and the optional-command word beside those that have a name here.
     Numbers outside the model's limits are written as they are, for power-on to refuse; those that their field can't hold raise ValueError.
     """
     for (name, _, size, _, _), value in zip(FIELDS, (data, spare, pages, blocks, luns, programs)):
         checks.number(name, value, 0, (1 << 8 * size) - 1)
     checks.byte("maker ID", maker)
+    checks.number("more features", more_features, 0, 0xFFFF)
+    checks.number("more options", more_options, 0, 0xFFFF)
     page = bytearray(PAGE_LENGTH)
     page[0:4] = b"ONFI"
-    page[6:8] = (FEATURE_MORE_LUNS * (luns > 1) | FEATURE_PROGRAM_CLEAR * program_clear).to_bytes(2, "little")
-    page[8:10] = (OPTIONAL_FEATURES * features | OPTIONAL_STATUS_78H * status_78h
-                  | OPTIONAL_COLUMN_06H * column_06h).to_bytes(2, "little")
+    page[6:8] = (FEATURE_MORE_LUNS * (luns > 1) | FEATURE_PROGRAM_CLEAR * program_clear | more_features).to_bytes(2, "little")
+    page[8:10] = (OPTIONAL_FEATURES * features | OPTIONAL_STATUS_78H * status_78h | OPTIONAL_COPYBACK * copyback
+                  | OPTIONAL_COLUMN_06H * column_06h | more_options).to_bytes(2, "little")
     page[64] = maker
     page[80:84] = data.to_bytes(4, "little")
     page[84:86] = spare.to_bytes(2, "little")

@@ -12,7 +12,8 @@ from pathlib import Path
 ROOT = Path(__file__).resolve().parent.parent.parent
 sys.path.insert(0, str(ROOT / "python"))
 
-from nibtoggle import RULES, Bench, Part, Refused, Replies, Reply, Status, UnwrittenZeros, crc, parameter_page  # noqa: E402
+from nibtoggle import (PARTS, RULES, Bench, Part, Refused, Replies, Reply, Status, UnwrittenZeros, crc,  # noqa: E402
+                       parameter_page)
 from nibtoggle._library import Target  # noqa: E402
 
 HEADER = (ROOT / "include" / "nibtoggle.h").read_text(encoding="utf-8")
@@ -188,6 +189,37 @@ class Jobs(unittest.TestCase):
         self.assertEqual(self.bench.read_page(0, 7, 3, count=4), b"\xFF" * 4)
         self.bench.erase(1, 7)
         self.assertEqual(self.bench.read_page(1, 7, 3), b"\xFF" * 528)
+
+    def test_copyback(self) -> None:
+        bench = Bench(PARTS["W"].page, 0x68)
+        bench.reset()
+        bench.program(1, 0, 0, b"preset")
+        self.assertFalse(bench.copyback_open(1))
+        self.assertTrue(bench.copyback_read(1, 0, 0, finish=False).ok)
+        self.assertTrue(bench.working(1) and bench.copyback_open(1))
+        with self.assertRaises(Refused) as caught:
+            bench.copyback_program(1, 5, 3)
+        self.assertEqual((caught.exception.number, caught.exception.index), (5, 5))
+        bench.finish(1)
+        self.assertEqual(bench.read_out(1, count=3), b"pre")
+        self.assertTrue(bench.copyback_program(1, 5, 3, b"SE", column=3).ok)
+        self.assertEqual((bench.copyback_open(1), bench.working(1)), (False, False))
+        self.assertEqual(bench.read_page(1, 5, 3, count=7), b"preSEt\xFF")
+        with self.assertRaises(Refused) as caught:
+            bench.copyback_program(1, 5, 2)
+        self.assertEqual((caught.exception.number, caught.exception.words), (14, "no copyback is open there"))
+        # the same page elsewhere, with no data at all, left working
+        bench.copyback_read(1, 0, 0)
+        bench.copyback_program(1, 6, 0, finish=False)
+        self.assertTrue(bench.working(1))
+        bench.finish(1)
+        self.assertEqual(bytes(bench.page_of(1, 6, 0)), bytes(bench.page_of(1, 0, 0)))
+
+    def test_copyback_is_an_option(self) -> None:
+        self.bench.strict = False
+        self.assertEqual(self.bench.copyback_read(0, 0, 0).refusals, [(6, 1)])
+        self.assertEqual(self.bench.copyback_program(0, 0, 0).refusals[0], (0, 1))
+        self.assertFalse(self.bench.working(0))
 
     def test_identification(self) -> None:
         self.assertEqual(self.bench.read_id(), b"\x2C\x68")

@@ -140,9 +140,12 @@ class Folders(Tried):
 
     def test_parts_by_name(self) -> None:
         pages = [MAKERS[512 * i:512 * i + 256] for i in range(6)]
-        self.assertEqual([known.page for known in list(PARTS.values())[2:]], pages)        # with the CRCs that the maker printed
+        self.assertEqual([known.page for known in list(PARTS.values())[3:]], pages)        # with the CRCs that the maker printed
         with Bench.new(self.folder / "t2", "T2") as bench:
             self.assertEqual((bench.part.pages, bench.part.blocks, bench.device_id), (3, 5, 0x68))
+        with Bench.new(self.folder / "w", "W") as bench:
+            self.assertEqual((bench.part, bench.device_id), (PARTS["T1"].part, 0x68))
+            self.assertEqual((bench.target.features, bench.target.optional_commands), (0x010E, 0x005D))
         path = self.folder / "large"
         with warnings.catch_warnings(record=True) as said:
             warnings.simplefilter("always")

@@ -46,6 +46,7 @@ class Numbers(unittest.TestCase):
         b = self.bench
         for place in ((2, 0, 0), (-1, 0, 0), (0, 8, 0), (0, -1, 0), (0, 0, 4), (0, 0, -1), (9, 9, 9)):
             for job in (lambda: b.program(*place, b"lost"), lambda: b.load(*place), lambda: b.read_page(*place), lambda: b.page_of(*place),
+                        lambda: b.copyback_read(*place), lambda: b.copyback_program(*place, b"lost"),
                         lambda: b.part.row(*place), lambda: b.part.page_number(*place), lambda: b.part.page_start(*place)):
                 with self.subTest(place=place):
                     self.sends_nothing(job)
@@ -54,13 +55,14 @@ class Numbers(unittest.TestCase):
             self.sends_nothing(call)
         for lun in (2, 255, 256, -1):
             for call in (lambda: b.finish(lun), lambda: b.status(lun), lambda: b.read_out(lun), lambda: b.register(lun),
-                         lambda: b.working(lun)):
+                         lambda: b.working(lun), lambda: b.copyback_open(lun)):
                 with self.subTest(lun=lun):
                     self.sends_nothing(call)
 
     def test_columns_counts_and_bytes(self) -> None:
         b = self.bench
         for call in (lambda: b.program(0, 0, 0, b"x", column=528), lambda: b.load(0, 0, 0, column=-1), lambda: b.read_page(0, 0, 0, 528),
+                     lambda: b.copyback_read(0, 0, 0, 528), lambda: b.copyback_program(0, 0, 0, b"x", column=-1),
                      lambda: b.read_out(0, 65536), lambda: b.event(0, 0x1FF), lambda: b.event(256, 0), lambda: b.event(-1, 0),
                      lambda: b.events([(0, 0x1FF)]), lambda: b.command(0x1FF), lambda: b.address(0, 256), lambda: b.read(-1),
                      lambda: b.read_page(0, 0, 0, count=-1), lambda: b.parameters(4), lambda: b.get_feature(256),
@@ -91,7 +93,8 @@ class Numbers(unittest.TestCase):
         for device_id in (256, -1, 0x168):
             with self.assertRaises(ValueError):
                 Bench(parameter_page(), device_id)
-        for words in ({"luns": 256}, {"data": -1}, {"spare": 65536}, {"maker": 300}, {"pages": 1 << 32}):
+        for words in ({"luns": 256}, {"data": -1}, {"spare": 65536}, {"maker": 300}, {"pages": 1 << 32},
+                      {"more_features": 1 << 16}, {"more_options": -1}):
             with self.assertRaises(ValueError):
                 parameter_page(**words)
 
@@ -101,6 +104,8 @@ class Numbers(unittest.TestCase):
         self.assertEqual(b.program(row=64, data=b"x").refusals[0], (5, 4))
         self.assertEqual(b.erase(row=0xFFFFFF).refusals[0], (3, 4))
         self.assertEqual(b.load(row=64).refusals[0], (5, 4))
+        self.assertEqual(b.copyback_read(row=64).refusals[0], (5, 4))
+        self.assertEqual(b.copyback_program(row=64).refusals[0], (0, 1))       # T1 has no copyback
         self.assertEqual(b.read_page(row=64), b"")
         self.assertEqual(b.read_out(row=64), b"")
         self.assertIsNone(b.status(row=64))

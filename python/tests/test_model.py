@@ -10,7 +10,7 @@ from typing import Iterator, List, Tuple
 ROOT = Path(__file__).resolve().parent.parent.parent
 sys.path.insert(0, str(ROOT / "python"))
 
-from nibtoggle import Bench, Reply  # noqa: E402
+from nibtoggle import PARTS, Bench, Reply  # noqa: E402
 
 MODEL = (ROOT / "docs" / "MODEL.md").read_text(encoding="utf-8")
 KINDS = {"c": 0, "a": 1, "d": 2, "f": 4, "p": 5}
@@ -37,11 +37,11 @@ def reply_of(word: str) -> Reply:
     return Reply(2, int(word.strip("[]"))) if word.startswith("[") else Reply(1, int(word, 16))
 
 
-def blocks() -> Iterator[List[Tuple[str, str]]]:
-    """The lines of each block: events, and the answers of the last of them."""
-    for block in re.findall(r"(?s)```trace\n(.*?)```", MODEL):
+def blocks() -> Iterator[Tuple[str, List[Tuple[str, str]]]]:
+    """Each block: its part, T1 where it names none, and its lines: events, and the answers of the last of them."""
+    for part, block in re.findall(r"(?s)```trace *(\w*)\n(.*?)```", MODEL):
         lines = [line.partition("->") for line in block.strip().split("\n")]
-        yield [(text.strip(), answers.strip()) for text, _, answers in lines]
+        yield part or "T1", [(text.strip(), answers.strip()) for text, _, answers in lines]
 
 
 def rows() -> List[Tuple[str, str]]:
@@ -61,10 +61,11 @@ class Model(unittest.TestCase):
 
     def test_traces(self) -> None:
         found = list(blocks())
-        self.assertGreaterEqual(len(found), 7)
-        for block in found:
-            bench = Bench.t1()
-            for text, answers in block:
+        self.assertGreaterEqual(len(found), 8)
+        self.assertEqual({part for part, _ in found}, {"T1", "W"})
+        for part, lines in found:
+            bench = Bench(PARTS[part].page, PARTS[part].device_id)
+            for text, answers in lines:
                 self.held(bench, text, answers)
 
     def test_what_a_driver_meets(self) -> None:

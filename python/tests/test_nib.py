@@ -79,6 +79,8 @@ class Files(Nib):
             "page": parameter_page(), "id": b"\x68", "array": b"\xFF" * 33792, "counts": bytes(64), "flags": bytes(16)})
         self.good("new", "t2", "T2")
         self.assertEqual(held(self.folder / "t2")["page"][0], parameter_page(pages=3, blocks=5))
+        self.good("new", "w", "W")
+        self.assertEqual(held(self.folder / "w")["page"][0], nibtoggle.PARTS["W"].page)
 
     def test_what_only_reads_changes_nothing(self) -> None:
         self.good("new", "t1")
@@ -129,8 +131,9 @@ class Files(Nib):
             self.assertEqual(bytes(bench.page), parameter_page())
 
     def test_explain_says_what_python_says(self) -> None:
-        self.good("new", "t1")
-        for trace in (self.trace + b"\x05\x00\x05\x01\x05\x02\x07", (NIBS / "trace").read_bytes(), VALUES,
+        self.good("new", "t1", "W")
+        for trace in (records_of("c ff c 00 a 00 00 00 00 00 c 35 c 85 a 00 00 00 00 00 f 0 c 85 a 00 00 00 00 00 c 85 a 00 00 c 85 a 00"),
+                      self.trace + b"\x05\x00\x05\x01\x05\x02\x07", (NIBS / "trace").read_bytes(), VALUES,
                       records_of("c ff c ef a 01 d 40 00 00 00 c 80 a 00 00 00 00 00 c 10 c 06 a 00 00 00 00 00 c 80 a 00 00 20 00 00 c 10 "
                                  "c 80 a 00 00 20 00 00 c 05 a 00 00 c 70 o 1 c 78 a 20 00 00 o 1")):
             bench = Bench.open(self.part, strict=False)

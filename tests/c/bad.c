@@ -32,7 +32,7 @@
 #endif
 
 /* The record without the padding at its end, which says nothing. */
-enum { USED = offsetof(nib_target, output) + 1, /* its sizes and words come first, then its size_t numbers, then its bytes */
+enum { USED = offsetof(nib_target, copyback) + 4, /* its sizes and words come first, then its size_t numbers, then its bytes */
        WORDS = offsetof(nib_target, pages) / sizeof(uint16_t),
        NUMBERS = (offsetof(nib_target, powered) - offsetof(nib_target, pages)) / sizeof(size_t), SPARE = 80, GUARD = 0x5A, LONGEST = 4000 };
 
@@ -162,6 +162,10 @@ static void check_same(const model *m)
     for (unsigned i = 0; i < BUFFERS; i++)
         if (memcmp(m->buffer[i].at, m->mine[i], m->right[i]) != 0)
             fail("a buffer is not the plain model's");
+    for (unsigned l = 0; l < NIB_MAX_LUNS; l++)
+        if (m->t->working[l] != m->plain.lun[l].working || m->t->fail[l] != m->plain.lun[l].fail
+            || m->t->copyback[l] != m->plain.lun[l].copyback)
+            fail("a LUN's marks are not the plain model's");
 }
 
 static uint32_t plain_power(model *m, const size_t *n, uint8_t device)
@@ -224,7 +228,7 @@ static void add(writer *w, unsigned kind, uint32_t value)
 
 static void noise(writer *w)
 {
-    static const uint8_t commands[] = {0x00, 0x30, 0x05, 0xE0, 0x06, 0x60, 0xD0, 0x70, 0x78, 0x80, 0x10, 0x85, 0x90, 0xEC, 0xEE, 0xEF, 0xFF};
+    static const uint8_t commands[] = {0x00, 0x30, 0x35, 0x05, 0xE0, 0x06, 0x60, 0xD0, 0x70, 0x78, 0x80, 0x10, 0x85, 0x90, 0xEC, 0xEE, 0xEF, 0xFF};
     if (chance(40))
         add(w, NIB_COMMAND, commands[below(sizeof commands)]);
     else if (chance(60))
@@ -266,15 +270,15 @@ static void many(writer *w, const model *m, unsigned kind)
 static void job(writer *w, const model *m)
 {
     uint32_t row = some_row(m);
-    switch (below(14)) {
-    case 0: case 1:                                             /* read */
-        add(w, 0, 0x00), addresses(w, some_column(m), 2), addresses(w, row, 3), add(w, 0, 0x30);
+    switch (below(16)) {
+    case 0: case 1: case 14:                                    /* read, and of a copyback's halves the first */
+        add(w, 0, 0x00), addresses(w, some_column(m), 2), addresses(w, row, 3), add(w, 0, chance(60) ? 0x30 : 0x35);
         if (chance(80))
             add(w, NIB_FINISH, below((uint32_t)m->part.luns));
         many(w, m, NIB_DATA_OUT);
         break;
-    case 2: case 3: case 4:                                     /* program */
-        add(w, 0, 0x80), addresses(w, some_column(m), 2), addresses(w, row, 3), many(w, m, NIB_DATA_IN);
+    case 2: case 3: case 4: case 15:                            /* program, and of a copyback's halves the second */
+        add(w, 0, chance(60) ? 0x80 : 0x85), addresses(w, some_column(m), 2), addresses(w, row, 3), many(w, m, NIB_DATA_IN);
         if (chance(30))
             add(w, 0, 0x85), addresses(w, some_column(m), 2), many(w, m, NIB_DATA_IN);
         add(w, 0, 0x10);
@@ -340,7 +344,7 @@ static size_t some_records(model *m)
 static void check_reply(uint32_t reply, unsigned kind)
 {
     unsigned first = reply >> 8, second = reply & 0xFF;
-    if (first > 2 || (first == 0 && second != 0) || (first == 2 && (second < 1 || second > 13)))
+    if (first > 2 || (first == 0 && second != 0) || (first == 2 && (second < 1 || second > 14)))
         fail("a reply of no form that there is");
     if (first == 1 && kind != NIB_DATA_OUT)
         fail("a byte from a cycle that gives none");
@@ -443,7 +447,7 @@ static void damage_record(model *m)
     }
     default:                    /* another sequence and output, with numbers that may fit it */
         m->t->sequence = (uint8_t)below(9);
-        m->t->first = (uint8_t)below(12);
+        m->t->first = (uint8_t)below(13);
         m->t->got = (uint8_t)below(4);
         m->t->low = chance(50) ? 0 : (uint8_t)random32();
         m->t->mid = chance(50) ? 0 : (uint8_t)random32();
@@ -453,6 +457,8 @@ static void damage_record(model *m)
         m->t->output = (uint8_t)below(8);
         m->t->output_lun = below(3);
         m->t->output_at = chance(50) ? 0 : some_column(m);
+        for (unsigned l = 0; l < NIB_MAX_LUNS; l++)
+            m->t->copyback[l] = l < m->part.luns ? chance(50) : chance(10);
     }
     damaged_records++;
 }
@@ -621,8 +627,9 @@ static void power_damaged(model *m)
 int main(int argc, char **argv)
 {
     static const fields parts[] = {
-        {512, 16, 4, 8, 2, 4, FEATURES_ALL, OPTIONAL_ALL},      /* T1 */
-        {512, 16, 3, 5, 2, 4, FEATURES_ALL, OPTIONAL_ALL},      /* T2 */
+        {512, 16, 4, 8, 2, 4, FEATURES_ALL, OPTIONAL_T1},       /* T1 */
+        {512, 16, 3, 5, 2, 4, FEATURES_ALL, OPTIONAL_T1},       /* T2 */
+        {512, 16, 4, 8, 2, 4, 0x10E, 0x5D},                     /* W */
         {16, 0, 1, 1, 1, 1, 0, 0},
         {16, 1, 3, 5, 4, 2, FEATURES_ALL, OPTIONAL_ALL},
         {254, 3, 2, 3, 3, 8, 0x002, 0x48},
@@ -659,7 +666,7 @@ int main(int argc, char **argv)
     printf("\n");
     /* a test that met nothing has tested nothing */
     for (unsigned i = 1; i <= 25; i++)
-        if ((i <= 13 || i >= 20) && met[i] == 0 && count >= 1000000)
+        if ((i <= 14 || i >= 20) && met[i] == 0 && count >= 1000000)
             fail("a refusal was never met");
     if (count >= 1000000 && (survived < 100 || refused13 < 1000))
         fail("too little damage, or too much");

@@ -9,12 +9,12 @@
 typedef struct fields {
     uint32_t data, spare, pages, blocks, luns, programs;
     unsigned features;          /* bit 1 more LUNs than one, bit 8 program-clear */
-    unsigned optional;          /* bit 2 EEh and EFh, bit 3 78h, bit 6 06h */
+    unsigned optional;          /* bit 2 EEh and EFh, bit 3 78h, bit 4 copyback, bit 6 06h */
 } fields;
 
-enum { FEATURES_ALL = 0x102, OPTIONAL_ALL = 0x4C, MAKER = 0x2C, DEVICE = 0x68 };
+enum { FEATURES_ALL = 0x102, OPTIONAL_ALL = 0x5C, OPTIONAL_T1 = 0x4C, MAKER = 0x2C, DEVICE = 0x68 };
 
-static const fields T1 = {512, 16, 4, 8, 2, 4, FEATURES_ALL, OPTIONAL_ALL};
+static const fields T1 = {512, 16, 4, 8, 2, 4, FEATURES_ALL, OPTIONAL_T1};
 
 static void put(uint8_t *page, unsigned at, unsigned bytes, uint32_t n)
 {

@@ -129,7 +129,7 @@ static void whole_case(void)
     same("trace", nib_lent_trace(&x.t, &x.b, in, sizeof in, replies, sizeof replies), 0);
     same("replies", (unsigned)memcmp(replies, out, sizeof out), 0);
     same("room to spare", replies[sizeof out] == 0xCC && replies[sizeof out + 1] == 0xCC, 1);
-    same("the same record", (unsigned)memcmp(&x.t, &after, offsetof(nib_target, output) + 1), 0);
+    same("the same record", (unsigned)memcmp(&x.t, &after, offsetof(nib_target, copyback) + 4), 0);
     close_bench(&x);
 }
 
@@ -286,6 +286,42 @@ static void rest(void)
     close_bench(&x);
 }
 
+/* Copyback on a part that has it: the register is kept, changed and written; the record has the mark and the first
+ * command. */
+static void copyback(void)
+{
+    static const uint8_t bytes_in[] = {0x11, 0x22, 0x33}, bytes_due[] = {0x11, 0x55, 0x33, 0xFF};
+    fields w = T1;
+    bench x;
+    uint32_t at;
+
+    w.optional |= NIB_OPTIONAL_COPYBACK;
+    open_bench(&x, &w);
+    at = nib_row(x.part, 0, 0, 0);
+    command(&x, 0xFF);
+    program(&x, at, 0, bytes_in, sizeof bytes_in);
+    event(&x, NIB_FINISH, 0);
+    same("00h", command(&x, 0x00), NIB_ACCEPTED);
+    same("column of 00h", column(&x, 0), NIB_ACCEPTED);
+    same("row of 00h", row(&x, at), NIB_ACCEPTED);
+    same("35h", command(&x, 0x35), NIB_ACCEPTED);
+    same("open on LUN 0", x.t.copyback[0] == 1 && x.t.copyback[1] == 0, 1);
+    event(&x, NIB_FINISH, 0);
+    same("85h", command(&x, 0x85), NIB_ACCEPTED);
+    same("its number", x.t.first, NIB_FIRST_COPYBACK_PROGRAM);
+    same("column of 85h", column(&x, 1), NIB_ACCEPTED);
+    same("LUN 1 has none open", row(&x, nib_row(x.part, 1, 0, 0)), REFUSED(NIB_REFUSED_NO_COPYBACK));
+    same("85h again", command(&x, 0x85), NIB_ACCEPTED);
+    same("column of 85h", column(&x, 1), NIB_ACCEPTED);
+    same("row of 85h", row(&x, nib_row(x.part, 0, 1, 0)), NIB_ACCEPTED);
+    same("takes data", x.t.sequence == NIB_SEQUENCE_FILLING && x.t.first == NIB_FIRST_COPYBACK_PROGRAM, 1);
+    same("data", data_in(&x, 0x55), NIB_ACCEPTED);
+    same("10h", command(&x, 0x10), NIB_ACCEPTED);
+    same("closed", x.t.copyback[0], 0);
+    same("written", memcmp(x.b.array + nib_page_start(x.part, 0, 1, 0), bytes_due, sizeof bytes_due) == 0, 1);
+    close_bench(&x);
+}
+
 static void refused_calls(void)
 {
     static const uint8_t odd[] = {0, 0xFF, 7};
@@ -298,7 +334,7 @@ static void refused_calls(void)
     before = x.t;
     same("short room", nib_lent_trace(&x.t, &x.b, odd, 3, replies, 3), 16);
     same("nothing written", replies[0] == 9 && replies[1] == 9 && replies[2] == 9, 1);
-    same("nothing run", (unsigned)memcmp(&x.t, &before, offsetof(nib_target, output) + 1), 0);
+    same("nothing run", (unsigned)memcmp(&x.t, &before, offsetof(nib_target, copyback) + 4), 0);
     same("odd byte", nib_lent_trace(&x.t, &x.b, odd, 3, replies, 4), 0);
     same("its reply", replies[2] == 2 && replies[3] == 12, 1);
     same("empty trace", nib_lent_trace(&x.t, &x.b, NULL, 0, NULL, 0), 0);
@@ -307,7 +343,7 @@ static void refused_calls(void)
     x.t.sequence = 8;
     before = x.t;
     same("no such sequence", command(&x, 0xFF), REFUSED(13));
-    same("it stays", (unsigned)memcmp(&x.t, &before, offsetof(nib_target, output) + 1), 0);
+    same("it stays", (unsigned)memcmp(&x.t, &before, offsetof(nib_target, copyback) + 4), 0);
     x.t = powered;
     x.t.high = 2;
     same("a mark of 2", command(&x, 0xFF), REFUSED(13));
@@ -332,6 +368,15 @@ static void refused_calls(void)
     x.t.optional_commands |= NIB_OPTIONAL_STATUS_ENHANCED;
     same("78h is offered", command(&x, 0x78), NIB_ACCEPTED);
     same("its number", x.t.first, NIB_FIRST_STATUS_ENHANCED);
+    x.t = powered;
+    x.t.copyback[1] = 2;
+    same("a copyback of 2", command(&x, 0xFF), REFUSED(13));
+    x.t = powered;
+    x.t.copyback[2] = 1;
+    same("a copyback of a LUN that is not there", command(&x, 0xFF), REFUSED(13));
+    x.t = powered;
+    x.t.copyback[1] = 1;
+    same("a copyback without its option", command(&x, 0xFF), NIB_ACCEPTED);
     x.t = powered;
     same("all NULL", nib_event(&x.t, 0, 0xFF, NULL, 0, NULL, 0, NULL, 0, NULL, 0, NULL, 0), REFUSED(13));
     same("as before", command(&x, 0xFF), NIB_ACCEPTED);
@@ -475,6 +520,14 @@ static void job_words(void)
     same("far past the end", nib_line_next(due, sizeof due, SIZE_MAX), SIZE_MAX);
 }
 
+/* A command's words are these. */
+static int says(uint8_t value, uint8_t inside, const char *words)
+{
+    uint8_t out[64];
+    size_t n = nib_say_event(0, NIB_COMMAND, value, inside, out, sizeof out);
+    return n == strlen(words) && memcmp(out, words, n) == 0;
+}
+
 /* Rows that are looked at, the version, and a text to a trace and back, with the words of its events. */
 static void text_and_words(void)
 {
@@ -519,6 +572,9 @@ static void text_and_words(void)
     job_words();
     same("words that have no room", nib_say_event(0, NIB_COMMAND, 0x80, 0, out, 7), 7);
     same("words to nowhere", nib_say_event(0, NIB_COMMAND, 0x80, 0, NULL, 0), 0);
+    same("35h", says(0x35, 1, "command 35h  start copyback read"), 1);
+    same("85h with no sequence open", says(0x85, 0, "command 85h  copyback program"), 1);
+    same("85h inside one", says(0x85, 1, "command 85h  change column"), 1);
     for (unsigned number = 0; number < 256; number++) {
         size_t said = nib_say_rule((uint8_t)number, out, sizeof out);
         same("one table of words", said == strlen(nib_words(number)) && memcmp(out, nib_words(number), said) == 0, 1);
@@ -532,6 +588,7 @@ int main(void)
     lost_preset(1);
     lost_preset(0);
     rest();
+    copyback();
     refused_calls();
     checked_pages();
     text_and_words();

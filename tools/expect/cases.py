@@ -2,8 +2,9 @@
 """cases.py: writes crates/test_table/data/table, the expectations that the program `test_table` holds the model to; with
 --check, only says whether that file is what it would write.
 
-Every expectation below is written by hand from document 01's words (quoted or named beside the states); none is taken
-from the model, which this script neither calls nor reads, and no state is worked out by running anything. The script only
+Every expectation below is written by hand from the words of document 01 and of request A1 of document 02 (quoted or named
+beside the states); none is taken from the model, which this script neither calls nor reads, and no state is worked out by
+running anything. The script only
 EXPANDS what each state says:
   seq(..)   a place with an open sequence: its own line says which commands, addresses and data fit and what they give;
             every other listed command is refused 3, FFh is accepted, a protect event is refused 11, no byte comes out;
@@ -53,8 +54,8 @@ def byte(b):
 
 
 # The standard events.
-COMMANDS = [0x00, 0x05, 0x06, 0x10, 0x30, 0x60, 0x70, 0x78, 0x80, 0x85, 0x90, 0xD0, 0xE0, 0xEC, 0xEE, 0xEF, 0xFF]
-UNKNOWN = [0x01, 0x35, 0xED, 0xFA]
+COMMANDS = [0x00, 0x05, 0x06, 0x10, 0x30, 0x35, 0x60, 0x70, 0x78, 0x80, 0x85, 0x90, 0xD0, 0xE0, 0xEC, 0xEE, 0xEF, 0xFF]
+UNKNOWN = [0x01, 0x31, 0xED, 0xFA]
 ADDRESSES = [0x00, 0x01, 0x02, 0x04, 0x0F, 0x10, 0x20, 0xFF]
 DATA = [0x00, 0x01, 0x40, 0xFF]
 FINISHES = [0, 1, 2, 3, 0xFF]
@@ -109,6 +110,16 @@ def read(r, x=0):
     return c(0x00) + col(x) + row(r) + c(0x30)
 
 
+def copyback(r, x=0):
+    """A page read for a copyback."""
+    return c(0x00) + col(x) + row(r) + c(0x35)
+
+
+def copied(r, x, *v):
+    """A copyback program."""
+    return c(0x85) + col(x) + row(r) + i(*v) + c(0x10)
+
+
 def erase(r):
     return c(0x60) + row(r) + c(0xD0)
 
@@ -139,7 +150,7 @@ def crc(page):
 PART = {}
 
 
-def part(name, data, spare, pages, blocks, luns, programs=2, features=0x0102, optional=0x004C, counts=None, flags=None):
+def part(name, data, spare, pages, blocks, luns, programs=2, features=0x0102, optional=0x005C, counts=None, flags=None):
     page = [0] * 256
     page[0:4] = b'ONFI'
     page[6:8] = features % 256, features // 256
@@ -165,6 +176,10 @@ def part(name, data, spare, pages, blocks, luns, programs=2, features=0x0102, op
         PART['off'] |= {0x06}
     if not optional >> 2 & 1:
         PART['off'] |= {0xEE, 0xEF}
+    # A1: "Optional bit 4; without it 35h, and 85h as a first command, are refusal 1."
+    PART['copyback'] = optional >> 4 & 1
+    if not PART['copyback']:
+        PART['off'] |= {0x35}
     line('P', [name])
     lengths()
     line('G', ['%X:%02X' % (n, b) for n, b in enumerate(page) if b])
@@ -220,7 +235,7 @@ def put(name, prefix, takes, firsts, address, data, out, then, works, shut, prot
             row1.append((ok, no(3)))
         elif gone == 2:
             row1.append((no(2), no(2)))
-        elif v in UNKNOWN or v in PART['off']:
+        elif v in UNKNOWN or v in PART['off'] or (v == 0x85 and not shut and not PART['copyback']):
             row1.append((no(1), no(3)))
         elif v in takes:
             row1.append(pair(takes[v], no(3)))
@@ -251,7 +266,7 @@ def seq(name, prefix, takes=None, address=no(3), data=no(3), works=()):
 def idle(name, prefix, seventy=byte(0xE0), out=no(3), then=no(3), works=(), protect=None, finish=None):
     """No sequence is open: first commands are accepted; 90h, ECh, EEh, EFh are 6 while any LUN works, and 70h (seventy: what
     it shows, or no(6)) while a LUN other than the selected one works."""
-    takes = {v: ok for v in (0x00, 0x05, 0x06, 0x60, 0x78, 0x80)}
+    takes = {v: ok for v in (0x00, 0x05, 0x06, 0x60, 0x78, 0x80, 0x85)}
     takes.update({v: no(6) if works else ok for v in (0x90, 0xEC, 0xEE, 0xEF)})
     takes[0x70] = no(6) if seventy == no(6) else (ok, seventy)
     put(name, prefix, takes, [], no(3), no(3), out, then, works, False, protect or (out, out), finish or {}, 3)
@@ -327,9 +342,10 @@ seq('00h, 4 addresses: row 0', FF + c(0x00) + col(3) + a(0x00, 0x00), address=on
 seq('00h, 4 addresses: row 7', FF + c(0x00) + col(3) + a(0x07, 0x00), address=only(ok))
 seq('00h, 4 addresses: row 8 is LUN 2', FF + c(0x00) + col(3) + a(0x08, 0x00), address=no(4))
 seq('00h, 4 addresses: row 256', FF + c(0x00) + col(3) + a(0x00, 0x01), address=no(4))
-# 30h starts work: a data out before the finish is 5.
-seq('00h, 5 addresses', FF + c(0x00) + col(3) + row(5), {0x30: (ok, no(5))})
-seq('00h, 5 addresses, line low', FF + p(0) + c(0x00) + col(3) + row(5), {0x30: (ok, no(5))})
+# 30h starts work: a data out before the finish is 5. "35h reads as 30h does."
+READ = {0x30: (ok, no(5)), 0x35: (ok, no(5))}
+seq('00h, 5 addresses', FF + c(0x00) + col(3) + row(5), READ)
+seq('00h, 5 addresses, line low', FF + p(0) + c(0x00) + col(3) + row(5), READ)
 
 # 05h: two column cycles, E0h, for the selected LUN; LUN 0 after FFh, whose register is FFh.
 seq('05h, 0 addresses', FF + c(0x05), address=ok)
@@ -521,7 +537,7 @@ BUSY = FF + program(4, 0)
 seq('00h on a working LUN, 4 addresses', BUSY + c(0x00) + col(0) + a(0x04, 0x00), address=only(no(5)), works=(1,))
 seq('00h on a ready LUN, 4 addresses, LUN 1 works', BUSY + c(0x00) + col(0) + a(0x00, 0x00), address=only(ok), works=(1,))
 seq('00h, row out of range, LUN 1 works', BUSY + c(0x00) + col(0) + a(0x08, 0x00), address=no(4), works=(1,))
-seq('00h, 5 addresses, LUN 1 works', BUSY + c(0x00) + col(2) + row(0), {0x30: (ok, no(5))}, works=(1,))
+seq('00h, 5 addresses, LUN 1 works', BUSY + c(0x00) + col(2) + row(0), READ, works=(1,))
 seq('00h on a LUN that finished inside', BUSY + c(0x00) + col(0) + a(0x04, 0x00) + f(1), address=only(ok))
 seq('80h on a working LUN, 4 addresses', BUSY + c(0x80) + col(0) + a(0x04, 0x00), address=only(no(5)), works=(1,))
 seq('80h, data, LUN 1 works', BUSY + c(0x80) + col(0) + row(0) + i(0x12), PUT, data=ok, works=(1,))
@@ -550,14 +566,106 @@ idle('register, bench refusals between', FF + read(5, 3) + f(1) + refused(f(1), 
 idle('register, protect events between', FF + read(5, 3) + f(1) + p(0) + o() + p(1), out=byte(0x54), then=byte(0x55))
 
 # ---------------------------------------------------------------------------------------------------------------------
-# Part B: as A with every optional bit and feature bit 8 clear: 78h, 06h, EEh and EFh are 1 wherever they come; "E0h is always
-# known".
+# A1, copyback. "00h, five addresses, 35h reads as 30h does and opens a copyback on that LUN."
+COPY = FF + copyback(5, 3) + f(1)
+idle('copyback: LUN 1 reads', FF + copyback(5, 3), seventy=byte(0x80), out=no(5), works=(1,), finish={1: byte(0x53)})
+idle('copyback: open on LUN 1', COPY, out=byte(0x53), then=byte(0x54))
+idle('copyback: open on LUN 1, line low', COPY + p(0), seventy=byte(0x60), out=byte(0x53), then=byte(0x54))
+idle('copyback: open on both LUNs', COPY + copyback(0, 4) + f(0), out=byte(0x04), then=byte(0x05))
+idle('copyback: status of a LUN that reads', FF + copyback(1) + c(0x70), seventy=byte(0x80), out=byte(0x80), then=byte(0x80), works=(0,), finish={0: byte(0xE0)})
+idle('copyback: failed, then read', FF + erase(2) + f(0) + copyback(2) + f(0), out=byte(0x20), then=byte(0x21))
+idle('copyback: FFh while it is open', COPY + FF)
+
+# "85h as a first command (no sequence open), five addresses, data if any, 10h"; it "ends output" as every first command.
+seq('copyback 85h, 0 addresses', COPY + c(0x85), address=ok)
+seq('copyback 85h, 0 addresses, none open', FF + c(0x85), address=ok)
+seq('copyback 85h, 1 address: 0Fh', COPY + c(0x85) + a(0x0F), address=only(ok))
+seq('copyback 85h, 1 address: 10h', COPY + c(0x85) + a(0x10), address=no(4))
+seq('copyback 85h, 2 addresses', COPY + c(0x85) + col(0x0E), address=ok)
+seq('copyback 85h, 3 addresses', COPY + c(0x85) + col(0x0E) + a(0x04), address=ok)
+seq('copyback 85h, 5 addresses, no data', COPY + c(0x85) + col(0x0E) + row(4), PUT, data=ok)
+seq('copyback 85h, 1 byte, one place left', COPY + c(0x85) + col(0x0E) + row(4) + i(0x55), PUT, data=ok)
+seq('copyback 85h, 2 bytes, at the end', COPY + c(0x85) + col(0x0E) + row(4) + i(0x55, 0xAA), PUT, data=no(8))
+seq('copyback 85h, line low', COPY + p(0) + c(0x85) + col(0x0E) + row(4) + i(0x55), {0x10: no(7), 0x85: ok}, data=ok)
+seq('copyback 85h, program-clear on', FF + CLEAR_ON + COPY[1:] + c(0x85) + col(0x0E) + row(4), PUT, data=ok)
+seq('copyback 85h of a full page', FF + copyback(0) + f(0) + c(0x85) + col(0x0E) + row(1), PUT, data=ok)
+seq('copyback 85h of a bad block', FF + copyback(0) + f(0) + c(0x85) + col(0x0E) + row(2), PUT, data=ok)
+# "85h moves are allowed as in a program."
+seq('copyback, a move, 0 addresses', COPY + c(0x85) + col(0x0E) + row(4) + i(0x55) + c(0x85), address=ok)
+seq('copyback, a move, 1 address: 0Fh', COPY + c(0x85) + col(0x0E) + row(4) + i(0x55) + c(0x85) + a(0x0F), address=only(ok))
+seq('copyback, a move, 1 address: 10h', COPY + c(0x85) + col(0x0E) + row(4) + i(0x55) + c(0x85) + a(0x10), address=no(4))
+seq('copyback, a move, 2 addresses', COPY + c(0x85) + col(0) + row(4) + c(0x85) + col(0x0F), PUT, data=ok)
+seq('copyback, a move, and 1 byte: at the end', COPY + c(0x85) + col(0) + row(4) + c(0x85) + col(0x0F) + i(0x55), PUT, data=no(8))
+
+
+def copies(name, prefix, answer, r=4, works=()):
+    """What the last row cycle of a copyback program gives: 00h completes the row, any other byte one that is not there."""
+    seq('copyback 85h, 4 addresses: ' + name, prefix + c(0x85) + col(2) + a(r % 256, r // 256), address=only(answer), works=works)
+
+
+# "Its row is checked as 80h's, 5 included"; "new refusal 14, checked after 5 at the last row cycle: no copyback open there".
+copies('row 4', COPY, ok)
+copies('row 7', COPY, ok, 7)
+copies('row 2, a bad block', FF + copyback(0) + f(0), ok, 2)
+copies('none open', FF, no(14))
+copies('none open on LUN 0', COPY, no(14), 0)
+copies('row 8 is LUN 2', COPY, no(4), 8)
+copies('row 8, none open', FF, no(4), 8)
+copies('row 256', COPY, no(4), 256)
+copies('LUN 1 still reads', FF + copyback(5), no(5), works=(1,))
+copies('LUN 1 works, none open', BUSY, no(5), works=(1,))
+copies('LUN 1 reads, none open on LUN 0', FF + copyback(5), no(14), 0, works=(1,))
+copies('open on LUN 0, LUN 1 works', FF + copyback(0) + f(0) + program(4, 0), ok, 0, works=(1,))
+copies('both open, LUN 0', COPY + copyback(0) + f(0), ok, 0)
+copies('both open, LUN 1', COPY + copyback(0) + f(0), ok)
+# "Any later 30h, 80h row or D0h accepted for that LUN, a copyback 10h, or FFh closes it."
+copies('closed by 30h', COPY + read(4) + f(1), no(14))
+copies('closed by an 80h row, given up', COPY + c(0x80) + col(0) + row(4) + refused(c(0x00), 3), no(14))
+copies('closed by a program', COPY + program(4, 0) + f(1), no(14))
+copies('closed by D0h', COPY + erase(4) + f(1), no(14))
+copies('closed by its 10h', COPY + copied(4, 0) + f(1), no(14))
+copies('closed by a 10h after a move', COPY + c(0x85) + col(0) + row(4) + c(0x85) + col(1) + i(0) + c(0x10) + f(1), no(14))
+copies('closed by a 10h that failed', FF + copyback(0) + f(0) + copied(2, 0) + f(0), no(14), 0)
+copies('closed by FFh', COPY + FF, no(14))
+copies('closed by FFh while LUN 1 reads', FF + copyback(5) + FF, no(14))
+# Nothing else does: what is refused is not "accepted", and another LUN's is not "for that LUN".
+copies('opened again', COPY + copyback(4) + f(1), ok)
+copies('80h, four of five cycles', COPY + c(0x80) + col(0) + a(4, 0) + refused(c(0x00), 3), ok)
+copies('80h, a row refused 4', COPY + c(0x80) + col(0) + a(8, 0) + refused(a(0), 4), ok)
+copies('80h, a row refused 5', FF + copyback(5) + c(0x80) + col(0) + a(4, 0) + refused(a(0), 5) + f(1), ok)
+copies('00h, given up', COPY + c(0x00) + col(0) + row(4) + refused(c(0xE0), 3), ok)
+copies('60h, given up', COPY + c(0x60) + row(4) + refused(c(0x10), 3), ok)
+copies('D0h refused 7', COPY + p(0) + c(0x60) + row(4) + refused(c(0xD0), 7), ok)
+copies('10h refused 7', COPY + p(0) + c(0x85) + col(0) + row(4) + i(9) + refused(c(0x10), 7), ok)
+copies('data refused 8', COPY + c(0x85) + col(15) + row(4) + i(9) + refused(i(9), 8), ok)
+copies('85h, given up', COPY + c(0x85) + col(0) + row(4) + refused(c(0x30), 3), ok)
+copies('85h, a row refused 4', COPY + c(0x85) + col(0) + a(8, 0) + refused(a(0), 4), ok)
+copies('85h, a row refused 14', COPY + c(0x85) + col(0) + a(0, 0) + refused(a(0), 14), ok)
+copies('a read of LUN 0', COPY + read(0) + f(0), ok)
+copies('a program of LUN 0', COPY + program(0, 0) + f(0), ok)
+copies('an erase of LUN 0', COPY + erase(0) + f(0), ok)
+copies('a copyback of LUN 0', COPY + copyback(0) + f(0) + copied(0, 0) + f(0), ok)
+copies('05h, 06h, 70h, 78h', COPY + c(0x05) + col(0) + c(0xE0) + c(0x06) + col(0) + row(4) + c(0xE0) + c(0x70) + look(4), ok)
+copies('90h, ECh, EEh, EFh', COPY + c(0x90) + a(0x00) + c(0xEC) + a(0x00) + c(0xEE) + a(0x01) + CLEAR_ON, ok)
+
+# "10h programs the register": the LUN works, and FAIL is as for 80h's.
+idle('copyback: LUN 1 programs', COPY + copied(4, 0), seventy=byte(0x80), works=(1,))
+idle('copyback: LUN 0 programs a bad block', FF + copyback(0) + f(0) + copied(2, 0), seventy=byte(0x80), works=(0,))
+idle('copyback failed: a bad block programmed', FF + copyback(0) + f(0) + copied(2, 0) + f(0), seventy=byte(0xE1))
+idle('copyback failed: a full page programmed', FF + copyback(0) + f(0) + copied(1, 0) + f(0), seventy=byte(0xE1))
+# An accepted row selects its LUN; one that is refused does not.
+idle('LUN 1 works, LUN 0 selected by a dropped copyback', FF + copyback(0) + f(0) + program(4, 0) + c(0x85) + col(0) + row(0) + refused(c(0x30), 3), seventy=no(6), works=(1,))
+idle('copyback: a row refused 14 selects nothing', FF + erase(2) + f(0) + copyback(5) + f(1) + c(0x85) + col(0) + a(0, 0) + refused(a(0), 14))
+
+# ---------------------------------------------------------------------------------------------------------------------
+# Part B: as A with every optional bit and feature bit 8 clear: 78h, 06h, EEh, EFh and 35h are 1 wherever they come, and 85h with
+# no sequence open; "E0h is always known".
 part('B: as A, no options', 16, 0, 2, 2, 2, features=0x0002, optional=0x0000, counts={1: 2, 5: 1}, flags={1: 1})
 before('B: before the first FFh', [])
 idle('B: idle', FF)
-idle('B: an option refused', FF + refused(c(0x78, 0x06, 0xEE, 0xEF), 1) + refused(a(0x00), 3))
+idle('B: an option refused', FF + refused(c(0x78, 0x06, 0xEE, 0xEF, 0x35, 0x85), 1) + refused(a(0x00), 3))
 seq('B: 00h, 0 addresses', FF + c(0x00), address=ok)
-seq('B: 00h, 5 addresses', FF + c(0x00) + col(3) + row(5), {0x30: (ok, no(5))})
+seq('B: 00h, 5 addresses', FF + c(0x00) + col(3) + row(5), READ)
 seq('B: 05h, 2 addresses', FF + read(5) + f(1) + c(0x05) + col(5), {0xE0: (ok, byte(0x55))})
 seq('B: 60h, 3 addresses', FF + c(0x60) + row(0), {0xD0: ok})
 seq('B: 80h, data', FF + c(0x80) + col(0) + row(0) + i(1), PUT, data=ok)
@@ -582,6 +690,24 @@ idle('E: 40h refused', FF + c(0xEF) + a(0x01) + refused(i(0x40), 9))
 part('F: as A, every optional bit but 2, 3 and 6', 16, 0, 2, 2, 2, features=0x0102, optional=0xFFB3)
 idle('F: idle', FF)
 seq('F: 80h, data', FF + c(0x80) + col(0) + row(0) + i(1), PUT, data=ok)
+part('J: as A, optional bit 4 only', 16, 0, 2, 2, 2, features=0x0002, optional=0x0010)
+idle('J: idle', FF)
+idle('J: a copyback open', COPY, out=byte(0x53), then=byte(0x54))
+seq('J: 00h, 5 addresses', FF + c(0x00) + col(3) + row(5), READ)
+copies('J: none open', FF, no(14))
+copies('J: open', COPY, ok)
+seq('J: copyback 85h, data', COPY + c(0x85) + col(0) + row(4) + i(1), PUT, data=ok)
+# Bit 4 clear, all others set: 35h is 1 wherever it comes, 85h with no sequence open; inside a program it still moves.
+part('K: as A, every optional bit but 4', 16, 0, 2, 2, 2, features=0x0102, optional=0xFFEF)
+before('K: before the first FFh', [])
+idle('K: idle', FF)
+idle('K: an option refused', FF + read(5) + f(1) + refused(c(0x85, 0x35), 1) + refused(a(0x00), 3))
+seq('K: 00h, 0 addresses', FF + c(0x00), address=ok)
+seq('K: 00h, 5 addresses', FF + c(0x00) + col(3) + row(5), READ)
+seq('K: 60h, 0 addresses', FF + c(0x60), address=ok)
+seq('K: 80h, data', FF + c(0x80) + col(0) + row(0) + i(1), PUT, data=ok)
+seq('K: 85h, 1 address', FF + c(0x80) + col(0) + row(0) + c(0x85) + a(0x02), address=only(ok))
+seq('K: 85h, 2 addresses', FF + c(0x80) + col(0) + row(0) + c(0x85) + col(2), PUT, data=ok)
 
 # ---------------------------------------------------------------------------------------------------------------------
 # Part G: one page, one block, one LUN: page and block fields of 0 bits, so the row is the LUN, and row 0 alone exists.
@@ -618,6 +744,10 @@ seq('H: 80h, 4 addresses: LUN 3', FF + c(0x80) + col(0) + a(0x30, 0x00), address
 seq('H: 60h, 2 addresses: LUN 3', FF + c(0x60) + a(0x30, 0x00), address=no(4))
 seq('H: 06h, 4 addresses: LUN 3', FF + c(0x06) + col(0) + a(0x30, 0x00), address=no(4))
 seq('H: 78h, 2 addresses: LUN 3', FF + c(0x78) + a(0x30, 0x00), address=no(4))
+seq('H: copyback 85h, 4 addresses: page 3', FF + copyback(0x20) + f(2) + c(0x85) + col(0) + a(0x23, 0x00), address=no(4))
+seq('H: copyback 85h, 4 addresses: block 3', FF + copyback(0x20) + f(2) + c(0x85) + col(0) + a(0x2C, 0x00), address=no(4))
+seq('H: copyback 85h, 4 addresses: LUN 3', FF + copyback(0x20) + f(2) + c(0x85) + col(0) + a(0x30, 0x00), address=no(4))
+seq('H: copyback 85h, 4 addresses: LUN 2', FF + copyback(0x20) + f(2) + c(0x85) + col(0) + a(0x2A, 0x00), address=only(ok))
 seq('H: 80h at column 16', FF + c(0x80) + col(16) + row(0x2A), PUT, data=ok)
 seq('H: 80h at the end', FF + c(0x80) + col(16) + row(0x2A) + i(0), PUT, data=no(8))
 idle('H: LUN 2 reads', FF + read(0x2A), seventy=byte(0x80), out=no(5), works=(2,), finish={2: byte(0xBF)})
@@ -635,8 +765,8 @@ idle('I: LUN 0 to 2 work, LUN 3 selected', FF + read(0) + read(2) + read(4) + lo
 idle('I: LUN 1 works, selected', FF + read(3), seventy=byte(0x80), out=no(5), works=(1,), finish={1: byte(0x30)})
 
 # ---------------------------------------------------------------------------------------------------------------------
-# Part T1: 512+16, 4 pages, 8 blocks, 2 LUNs. P = 528; page 2 bits, block 3 bits, the rest LUN: rows 0 to 63.
-T1 = ('T1: 512+16, 4 pages, 8 blocks, 2 LUNs', 512, 16, 4, 8, 2, 4)
+# Part T1: 512+16, 4 pages, 8 blocks, 2 LUNs. P = 528; page 2 bits, block 3 bits, the rest LUN: rows 0 to 63. No copyback.
+T1 = ('T1: 512+16, 4 pages, 8 blocks, 2 LUNs', 512, 16, 4, 8, 2, 4, 0x0102, 0x004C)
 part(*T1)
 LOW = [ok, ok, ok] + [no(4)] * 5
 TEN = [ok, ok] + [no(4)] * 6
@@ -668,7 +798,7 @@ idle('T1: register, used up', FF + read(55, 527) + f(1) + o(), out=no(8))
 idle('T1: LUN 1 works on row 55', FF + read(55, 527), seventy=byte(0x80), out=no(5), works=(1,), finish={1: byte(200)})
 
 # Part T2: as T1 with 3 pages and 5 blocks. The fields stay 2 and 3 bits wide: row 18 is block 4, page 2.
-T2 = ('T2: 512+16, 3 pages, 5 blocks, 2 LUNs', 512, 16, 3, 5, 2, 4)
+T2 = ('T2: 512+16, 3 pages, 5 blocks, 2 LUNs', 512, 16, 3, 5, 2, 4, 0x0102, 0x004C)
 part(*T2)
 idle('T2: idle', FF)
 seq('T2: 80h, row 18', FF + c(0x80) + col(0) + a(18, 0), address=only(ok))
@@ -963,7 +1093,7 @@ kept()
 # "Keeping output alive after a refusal, so that station B reads station A's register."
 case('error 4: no output outlives a refusal')
 run(FF + read(1) + f(0) + given(0x10, 0x11))
-for word, n in [(c(0x30), 3), (c(0x01), 1), (a(0x00), 3), (i(0x00), 3), (c(0xE0), 3), (c(0x10), 3), (c(0x85), 3)]:
+for word, n in [(c(0x30), 3), (c(0x01), 1), (a(0x00), 3), (i(0x00), 3), (c(0xE0), 3), (c(0x10), 3), (c(0x35), 3)]:
     run(c(0x05) + col(2) + c(0xE0) + given(0x12) + refused(word, n) + refused(o(2), 3))
 for word, n in [(c(0x30), 3), (a(0x00), 3), (i(0x00), 3)]:
     run(c(0x70) + given(0xE0) + refused(word, n) + refused(o(), 3))
@@ -1056,14 +1186,15 @@ counts('4:01')
 registers(*at(0, *page_of(1)), times(16, 16, 0xFF), *at(16, 0x00))
 kept()
 
-case('10h, 30h, D0h, E0h, 85h with no sequence, each address and datum astray')
-run(FF + refused(c(0x10, 0x30, 0xD0, 0xE0, 0x85) + a(0x00, 0xFF) + i(0x00, 0xFF) + o(), 3))
+case('10h, 30h, 35h, D0h, E0h with no sequence, each address and datum astray')
+run(FF + refused(c(0x10, 0x30, 0x35, 0xD0, 0xE0) + a(0x00, 0xFF) + i(0x00, 0xFF) + o(), 3))
 run(c(0x80) + col(0) + row(0) + c(0x85) + a(0) + refused(c(0x10), 3) + refused(c(0x10), 3))
 run(c(0x80) + col(0) + row(0) + c(0x85) + a(0) + refused(c(0x85), 3) + refused(a(0), 3))
 run(c(0x80) + col(0) + row(0) + c(0x85) + col(1) + refused(a(0), 3) + refused(i(0), 3))
 run(c(0x80) + col(0) + row(0) + c(0x85) + refused(i(0), 3))
 run(CLEAR_ON + refused(i(0), 3) + c(0x60) + row(0) + refused(c(0x30), 3) + refused(c(0xD0), 3))
 run(c(0x06) + col(0) + row(0) + refused(c(0x30), 3) + c(0x05) + col(0) + refused(c(0x30), 3) + c(0x00) + col(0) + row(0) + refused(c(0xE0), 3))
+run(c(0x06) + col(0) + row(0) + refused(c(0x35), 3) + c(0x05) + col(0) + refused(c(0x35), 3) + c(0x80) + col(0) + row(0) + refused(c(0x35), 3))
 registers(times(32, 0, 0xFF))
 kept()
 
@@ -1073,6 +1204,92 @@ run(FF + c(0xEC) + a(0x00))
 for n in range(3):
     run(given(*PART['page']))
 run(refused(o(), 8) + refused(o(), 3))
+kept()
+
+# ---------------------------------------------------------------------------------------------------------------------
+# A1, on A. "10h programs the register without clearing it".
+case('copyback: the register is kept, changed and written')
+run(FF + copyback(5) + f(1) + given(0x50, 0x51))
+registers(*at(16, *page_of(5)))
+kept()
+run(copied(6, 2, 0x0F) + c(0x70) + given(0x80) + f(1) + given(0xE0))
+array(*at(96, *[x & y for x, y in zip(page_of(6), [0x50, 0x51, 0x0F, *range(0x53, 0x60)])]))
+counts('6:01')
+registers(*at(18, 0x0F))
+kept()
+# The 10h closed it.
+run(c(0x85) + col(0) + a(7, 0) + refused(a(0), 14) + refused(c(0x10), 3))
+kept()
+# Moves, and a page of the same block; no data at all.
+run(copyback(5) + f(1) + c(0x85) + col(1) + row(7) + i(0xAA) + c(0x85) + col(5) + i(0xBB, 0xCC) + c(0x10) + f(1))
+registers(*at(16, *page_of(5)), *at(17, 0xAA), *at(21, 0xBB, 0xCC))
+array(*at(112, *[x & y for x, y in zip(page_of(7), [0x50, 0xAA, 0x52, 0x53, 0x54, 0xBB, 0xCC, *range(0x57, 0x60)])]))
+counts('7:01')
+kept()
+run(copyback(4) + f(1) + copied(5, 0) + f(1) + c(0x05) + col(3) + c(0xE0) + given(0x43, 0x44))
+registers(*at(16, *page_of(4)))
+array(*at(80, *[x & y for x, y in zip(page_of(5), page_of(4))]))
+counts('5:02')
+kept()
+
+# Nothing is cleared, at 85h or at its row, whatever program-clear is.
+for name, start in (('off', []), ('on', CLEAR_ON)):
+    case('copyback: nothing is cleared, program-clear ' + name)
+    run(FF + start + BOTH + copyback(1) + f(0) + copyback(6) + f(1))
+    registers(*at(0, *page_of(1)), *at(16, *page_of(6)))
+    run(c(0x85))
+    kept()
+    run(col(0) + row(4) + c(0x10) + f(1))
+    array(*at(64, *[x & y for x, y in zip(page_of(4), page_of(6))]))
+    counts('4:01')
+    kept()
+    run(c(0x85) + col(0) + a(8, 0) + refused(a(0), 4) + c(0x85) + col(0) + a(4, 0) + refused(a(0), 14))
+    kept()
+    run(copied(0, 0) + f(0))
+    array(*at(0, *[x & y for x, y in zip(page_of(0), page_of(1))]))
+    counts('0:01')
+    kept()
+
+# "For that LUN": with program-clear off another LUN's 80h fills this register, and the copyback programs FFh.
+case('copyback: a register that another LUN\'s 80h has filled')
+run(FF + copyback(1) + f(0) + program(4, 0) + f(1) + copied(0, 0) + f(0) + c(0x70) + given(0xE0))
+counts('0:01', '4:01')
+kept()
+run(FF + CLEAR_ON + copyback(1) + f(0) + program(4, 0) + f(1) + copied(0, 0) + f(0) + c(0x70) + given(0xE0))
+registers(*at(0, *page_of(1)))
+array(*at(0, *[x & y for x, y in zip(page_of(0), page_of(1))]))
+counts('0:02', '4:02')
+kept()
+
+# Only accepted events close it; what was given stays in the register.
+case('copyback: refused 7 and 8, still open')
+run(FF + copyback(5) + f(1) + p(0) + c(0x85) + col(0) + row(4) + i(0x09) + refused(c(0x10), 7) + refused(c(0x10), 3))
+registers(*at(16, *page_of(5)), *at(16, 0x09))
+kept()
+run(p(1) + c(0x85) + col(15) + row(4) + i(0x08) + refused(i(0x07), 8) + refused(c(0x10), 3))
+registers(*at(31, 0x08))
+kept()
+run(copied(4, 1, 0x06) + f(1) + c(0x05) + col(0) + c(0xE0) + given(0x09, 0x06, 0x52))
+registers(*at(17, 0x06))
+array(*at(64, *[x & y for x, y in zip(page_of(4), [0x09, 0x06, *range(0x52, 0x5F), 0x08])]))
+counts('4:01')
+kept()
+
+case('copyback: FAIL, and closed')
+run(FF + copyback(0) + f(0) + copied(2, 0, 0x00) + c(0x70) + given(0x80) + f(0) + given(0xE1))
+registers(*at(0, *page_of(0)), *at(0, 0x00))
+run(c(0x85) + col(0) + a(0, 0) + refused(a(0), 14) + c(0x70) + given(0xE1))
+kept()
+run(copyback(0) + c(0x70) + given(0x80) + f(0) + given(0xE0) + copied(1, 0, 0x00) + f(0) + c(0x70) + given(0xE1))
+kept()
+
+# A refused program's moves are first commands: 85h and two columns are accepted, what follows is 3.
+case('copyback: the moves of a refused program')
+run(FF + read(4) + c(0x80) + col(0) + a(4, 0) + refused(a(0), 5) + refused(i(1), 3) + c(0x85) + col(2) + refused(i(3), 3) + refused(c(0x10), 3))
+run(c(0x80) + col(0) + a(4, 0) + refused(a(0), 5) + c(0x85) + a(0x10) + refused(a(0x00), 4) + refused(c(0x10), 3))
+run(c(0x80) + col(0) + a(4, 0) + refused(a(0), 5) + c(0x85) + col(2) + refused(c(0x85), 3) + c(0x85) + col(3) + refused(c(0x10), 3) + refused(c(0x10), 3))
+run(f(1) + p(1))
+registers(*at(16, *[0xFF] * 16))
 kept()
 
 # ---------------------------------------------------------------------------------------------------------------------
@@ -1116,15 +1333,17 @@ kept()
 # table's R words name them.
 RECORD = {
     'powered': 0, 'data bytes': 1, 'pages': 2, 'blocks': 3, 'LUNs': 4, 'programs': 5, 'selected': 6, 'LUN 2 works': 7, 'LUN 3 failed': 8,
-    'features': 9, 'optional commands': 10,
+    'features': 9, 'optional commands': 10, 'copyback of LUN 0': 11, 'copyback of LUN 2': 12,
     # the output is the register of LUN 0 from a column on, that of a LUN from column 0 on, the parameter page, a LUN's status,
     # IDs, the signature, the feature, each from a place on
     'register column': 0x10, 'register LUN': 0x11, 'parameter place': 0x12, 'status LUN': 0x13, 'ID place': 0x14,
     'signature place': 0x15, 'feature place': 0x16,
     # the sequence is 00h, 06h, 05h or 60h with all its addresses, the other ones 0; 80h with its next byte's place, or row; 85h
-    # with a row and one address; EFh with so many bytes
+    # with a row and one address; EFh with so many bytes; a copyback program with its next byte's place, or row; a move inside one
+    # with a row and one address; a program, or a move, that a command of this byte opened
     '00h column': 0x20, '00h row': 0x21, '06h column': 0x22, '06h row': 0x23, '05h column': 0x24, '60h row': 0x25,
-    '80h place': 0x26, '80h row': 0x27, '85h row': 0x28, 'EFh bytes': 0x29,
+    '80h place': 0x26, '80h row': 0x27, '85h row': 0x28, 'EFh bytes': 0x29, 'copyback place': 0x2A, 'copyback row': 0x2B,
+    'copyback move row': 0x2C, 'program opened by': 0x2D, 'move opened by': 0x2E,
 }
 
 
@@ -1186,6 +1405,10 @@ fine('selected', 1, c(0x05) + col(0) + c(0xE0) + given(0xFF))
 bad('LUN 2 works', 1)
 bad('LUN 3 failed', 1)
 fine('LUN 2 works', 0, c(0x70) + given(0xE0))
+bad('copyback of LUN 2', 1)
+fine('copyback of LUN 2', 0, c(0x70) + given(0xE0))
+fine('copyback of LUN 0', 1, copied(0, 0, 0xFF) + f(0) + c(0x85) + col(0) + a(0, 0) + refused(a(0), 14))
+fine('copyback of LUN 0', 0, c(0x85) + col(0) + a(0, 0) + refused(a(0), 14))
 
 # An output that is used up stands one past its last byte; "8: data in or out past the end".
 case('13: output')
@@ -1211,7 +1434,7 @@ case('13: sequences')
 for name in ('00h column', '06h column', '05h column'):
     bad(name, 16)
     fine(name, 15, c(0x30 if name[0:2] == '00' else 0xE0))
-for name in ('00h row', '06h row', '60h row', '80h row', '85h row'):
+for name in ('00h row', '06h row', '60h row', '80h row', '85h row', 'copyback row', 'copyback move row'):
     bad(name, 8)
     bad(name, 0xFFFF)
 fine('00h row', 7, c(0x30) + f(1) + given(0x70))
@@ -1222,13 +1445,25 @@ fine('85h row', 7, a(0) + i(0) + c(0x10) + f(1))
 bad('80h place', 17)
 fine('80h place', 16, refused(i(0), 8))
 fine('80h place', 15, i(0) + refused(i(0), 8))
+bad('copyback place', 17)
+fine('copyback place', 16, refused(i(0), 8))
+fine('copyback place', 15, i(0) + refused(i(0), 8))
+fine('copyback row', 7, i(0) + c(0x10) + f(1))
+fine('copyback move row', 7, a(0) + i(0) + c(0x10) + f(1))
+# "A program taking data (or in a move) names its first command": 80h or 85h, and no other.
+for v in (0x00, 0x05, 0x06, 0x60, 0x70, 0x78, 0x90, 0xEC, 0xEE, 0xEF):
+    bad('program opened by', v)
+    bad('move opened by', v)
+for v in (0x80, 0x85):
+    fine('program opened by', v, i(0xFF) + c(0x10) + f(0) + c(0x70) + given(0xE0))
+    fine('move opened by', v, a(0) + i(0xFF) + c(0x10) + f(0) + c(0x70) + given(0xE0))
 bad('EFh bytes', 4)
 fine('EFh bytes', 3, i(0) + refused(i(0), 3))
 
 # H has 3 pages and 3 blocks: row 23h is page 3, 0Ch is block 3, 2Fh is LUN 2, block 3, page 3, and 30h is LUN 3.
 part('H: 16+1, 3 pages, 3 blocks, 3 LUNs', 16, 1, 3, 3, 3)
 case('13: rows whose fields are not full')
-for name in ('00h row', '80h row', '85h row'):
+for name in ('00h row', '80h row', '85h row', 'copyback row', 'copyback move row'):
     bad(name, 0x23)
     bad(name, 0x0C)
     bad(name, 0x30)
@@ -1240,6 +1475,13 @@ fine('06h row', 0x2F, c(0xE0) + given(0xFF))
 fine('00h row', 0x2A, c(0x30) + f(2) + given(0xBF))
 bad('LUN 3 failed', 1)
 fine('LUN 2 works', 1, look(0x2F) + given(0x80) + f(2) + given(0xE0))
+fine('copyback of LUN 2', 1, copied(0x2A, 0, 0xFF) + f(2) + c(0x70) + given(0xE0))
+
+# "A mark without its option passes": an option is no geometry.
+part('K: as A, every optional bit but 4', 16, 0, 2, 2, 2, features=0x0102, optional=0xFFEF)
+case('13: a copyback open, or a copyback program, on a part that has none')
+fine('copyback of LUN 0', 1, refused(c(0x85), 1) + c(0x70) + given(0xE0))
+fine('copyback place', 0, i(0xFF) + c(0x85) + col(1) + i(0xFF) + c(0x10) + f(0) + c(0x70) + given(0xE0))
 
 # ---------------------------------------------------------------------------------------------------------------------
 # Wrong on purpose, so that the program shows that it compares: eleven expectations here are wrong, of each kind at

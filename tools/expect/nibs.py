@@ -1,6 +1,6 @@
 #!/usr/bin/env python3
 """The files of crates/test_nib/data, all but `script`, `job_script` and `look`'s words: the folders and pages, the scripts'
-traces, and a long trace with its text, by a reader and a writer of their own.
+traces, a worked sequence's, and a long trace with its text, by a reader and a writer of their own.
 
     python3 tools/expect/nibs.py            # writes them anew
     python3 tools/expect/nibs.py --check    # says whether they are so
@@ -105,6 +105,13 @@ def write(records):
     return ''.join('o %d\n' % (len(l) - 1) if l[0] == 'o' else ' '.join(l) + '\n' for l in lines)
 
 
+def worked(request, case):
+    """A case of tests/sequences, on a part just reset: its trace."""
+    text = open(os.path.join(TOP, 'tests', 'sequences', request + '.txt')).read()
+    lines = text.split('\n# case %d:' % case)[1].split('\n# case ')[0].split('\n')
+    return read('c ff\n' + '\n'.join(line for line in lines[1:] if not line.startswith('#')))
+
+
 def many():
     every = [(k, v) for k in range(8) for v in range(256)]
     mixed = every[:]
@@ -131,6 +138,7 @@ def files():
     yield 'no_jobs', read(NONE)
     yield 'cut_off', read('c 60  a 01 00 00  c d0  f 0  c 80  a 00 00 00')
     yield 'nothing', b''
+    yield 'copyback', worked('A1', 1)
     yield 'many', bytes(x for r in many() for x in r) + b'\x03'
     yield 'many_text', (write(many()) + 'x 03\n').encode()
 

@@ -80,6 +80,11 @@ pub fn show_parts(out: &mut Paper) {
     let p = text(
         out,
         p,
+        b"W                    512+16 bytes, 4 pages, 8 blocks, 2 LUNs, array 33792 bytes, device ID 68h\n",
+    );
+    let p = text(
+        out,
+        p,
         b"more than nib holds, and made by python3 -m nibtoggle new:\n",
     );
     let p = large_parts(out, p);

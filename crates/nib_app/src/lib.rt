@@ -27,6 +27,7 @@ use nib_files::part::read_page;
 use nib_files::part::shape_of;
 use nib_files::part::t1;
 use nib_files::part::to_t2;
+use nib_files::part::to_w;
 use nib_jobs::tell_jobs;
 use nib_page::pages::show_page;
 use nib_print::pen::Paper;
@@ -113,6 +114,10 @@ fn part_of(name: &[u8], page: &mut Page) -> Part {
     }
     if is_word(name, b"T2") {
         to_t2(page);
+        return planned(name, page, T1_ID);
+    }
+    if is_word(name, b"W") {
+        to_w(page);
         return planned(name, page, T1_ID);
     }
     if is_maker_s(name) {

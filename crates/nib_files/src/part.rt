@@ -45,7 +45,7 @@ pub type Flags = [u8; 16384];
 
 pub type Page = [u8; 256];
 
-// T1's parameter page: 512+16 bytes, 4 pages, 8 blocks, 2 LUNs, every option.
+// T1's parameter page: 512+16 bytes, 4 pages, 8 blocks, 2 LUNs; every option but copyback.
 const T1: [u8; 256] = [
     79,
     78,
@@ -315,6 +315,14 @@ pub fn to_t2(page: &mut Page) {
     page[96] = 5;
     page[254] = 180;
     page[255] = 50;
+}
+
+// T1's page becomes W's: copyback too, with bits for cache programming, pages in any order and planes, and the CRC.
+pub fn to_w(page: &mut Page) {
+    page[6] = 0x0e;
+    page[8] = 0x5d;
+    page[254] = 250;
+    page[255] = 2;
 }
 
 // T1's device ID.

@@ -8,6 +8,7 @@ use power::Powered;
 use power::power_number;
 use target::Event;
 use target::Target;
+use target::records::copyback_at;
 use target::reply_first;
 use target::reply_second;
 use test_judge_parts::field;
@@ -244,6 +245,24 @@ fn absorb_rest<'a>(t: Target, g: &mut State, page: &'a [u8], registers: &'a [u8]
     show(g, b" rest ", which, u.at, u.count, 0);
 }
 
+// The record's numbers that no reply need show: which LUNs have a copyback open.
+fn absorb_record(t: Target, g: &mut State) {
+    let luns = t.luns;
+    let a = mark(copyback_at(luns, 0));
+    let b = mark(copyback_at(luns, 1));
+    let c = mark(copyback_at(luns, 2));
+    let d = mark(copyback_at(luns, 3));
+    absorb(g, a);
+    absorb(g, b);
+    absorb(g, c);
+    absorb(g, d);
+    show(g, b" copybacks ", a, b, c, d);
+}
+
+fn mark(on: bool) -> usize {
+    if on { 1 } else { 0 }
+}
+
 // The record of a spoiled event: data out for a legal one (43, 53: data in), which changes no lent byte, else any.
 fn spoiled_kind(g: &mut State, what: usize) -> usize {
     if is_legal(what) {
@@ -369,6 +388,7 @@ fn run_some(
         )
     };
     absorb_rest(n, g, page, registers);
+    absorb_record(n, g);
     if sometimes(g, knob::SPOIL) {
         run_spoiled(n, g, replies, page, array, registers, counts, flags);
     }

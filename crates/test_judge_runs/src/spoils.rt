@@ -49,7 +49,21 @@ fn spoil_geometry(g: Geometry, what: usize) -> Geometry {
     }
 }
 
-// Spoils of the record's own numbers.
+// A LUN with a copyback open.
+fn opened(t: Target, l: usize) -> Target {
+    let luns = t.luns;
+    let mut n = t;
+    if l < 4 {
+        let x = luns[l];
+        n.luns[l] = Lun {
+            copyback: true,
+            ..x
+        };
+    }
+    n
+}
+
+// Spoils of the record's own numbers; 54 is legal, with the option or without.
 fn spoil_number(t: Target, what: usize) -> Target {
     let g = t.geometry;
     let luns = t.luns;
@@ -74,6 +88,8 @@ fn spoil_number(t: Target, what: usize) -> Target {
             n.luns[3] = Lun { fail: true, ..l };
             n
         }
+        47 => opened(t, 3),
+        54 => opened(t, sub(g.luns, 1)),
         _ => {
             let geometry = spoil_geometry(g, what);
             Target { geometry, ..t }
@@ -129,16 +145,18 @@ fn due(first: First, column: usize, row: usize) -> Sequence {
     Sequence::Due(wait)
 }
 
-fn filling(row: usize, at: usize) -> Sequence {
+fn filling(first: First, row: usize, at: usize) -> Sequence {
     let fill = Fill {
+        first,
         row: Row(row),
         at: Column(at),
     };
     Sequence::Filling(fill)
 }
 
-fn moving(row: usize) -> Sequence {
+fn moving(first: First, row: usize) -> Sequence {
     let moved = Moved {
+        first,
         row: Row(row),
         got: 0,
         low: 0,
@@ -158,16 +176,19 @@ fn spoil_sequence(p: Geometry, g: &State, what: usize) -> Sequence {
     match what {
         31 => due(First::Read, end, 0),
         32 => due(First::Read, 0, past),
-        33 => filling(0, add(end, 1)),
-        34 => filling(past, 0),
+        33 => filling(First::Program, 0, add(end, 1)),
+        34 => filling(First::Program, past, 0),
         35 => due(First::Erase, 0, past),
         36 => due(First::ChangeColumnEnhanced, 0, past),
         37 => due(First::ChangeColumn, end, 0),
         38 => setting(4),
         39 => due(First::Erase, 0, row_of(g, 0, p.blocks, 0)),
-        40 => filling(row_of(g, 0, 0, p.pages), 0),
+        40 => filling(First::Program, row_of(g, 0, 0, p.pages), 0),
         41 => due(First::Read, 0, row_of(g, 0, p.blocks, 0)),
-        _ => moving(past),
+        42 => moving(First::Program, past),
+        50 => filling(First::CopybackProgram, 0, add(end, 1)),
+        51 => filling(First::CopybackProgram, past, 0),
+        _ => moving(First::CopybackProgram, past),
     }
 }
 
@@ -180,14 +201,19 @@ fn legal_sequence(p: Geometry, g: &State, what: usize) -> Sequence {
     let page = sub(power(g[place::PAGE_BITS]), 1);
     let last = sub(p.blocks, 1);
     match what {
-        43 => filling(row_of(g, lun, 0, 0), end),
+        43 => filling(First::Program, row_of(g, lun, 0, 0), end),
         44 => due(First::Erase, 0, row_of(g, lun, last, page)),
         45 => due(
             First::ChangeColumnEnhanced,
             column,
             row_of(g, lun, block, page),
         ),
-        _ => due(First::Read, column, row_of(g, lun, last, sub(p.pages, 1))),
+        46 => due(First::Read, column, row_of(g, lun, last, sub(p.pages, 1))),
+        _ => filling(
+            First::CopybackProgram,
+            row_of(g, lun, last, sub(p.pages, 1)),
+            end,
+        ),
     }
 }
 
@@ -213,14 +239,14 @@ pub fn spoiled(t: Target, g: &State, what: usize) -> Target {
     match what {
         0..=12 => spoil_number(t, what),
         13..=17 => t,
-        30 => spoil_number(t, what),
+        30 | 47 | 54 => spoil_number(t, what),
         48 | 49 => {
             let w = t.words;
             let words = spoil_words(w, what);
             Target { words, ..t }
         }
         18..=29 => with_output(t, spoil_output(p, what)),
-        31..=42 => with_sequence(t, spoil_sequence(p, g, what)),
+        31..=42 | 50..=52 => with_sequence(t, spoil_sequence(p, g, what)),
         _ => with_sequence(t, legal_sequence(p, g, what)),
     }
 }

@@ -90,6 +90,14 @@ fn folders() {
         b"look",
     );
     tried(b"new other T2", Asked::NewFrom, b"other", b"T2", b"look");
+    tried(b"new third W", Asked::NewFrom, b"third", b"W", b"look");
+    tried(
+        b"explain third, a copyback",
+        Asked::Explain,
+        b"third",
+        b"",
+        b"copyback",
+    );
 }
 
 fn main() {

@@ -13,6 +13,8 @@ use target::Sequence;
 use target::Target;
 use target::Wait;
 use target::Words;
+use target::commands::FirstFound;
+use target::commands::first_of;
 
 fn sized(g: Geometry, field: usize, v: usize) -> Geometry {
     match field {
@@ -60,6 +62,26 @@ fn marked(t: Target, field: usize, v: usize) -> Target {
     n
 }
 
+// The copyback of LUN 0, of LUN 2.
+fn copying(t: Target, field: usize, v: usize) -> Target {
+    let luns = t.luns;
+    let mut n = t;
+    if field == 11 {
+        let l = luns[0];
+        n.luns[0] = Lun {
+            copyback: v == 1,
+            ..l
+        };
+    } else {
+        let l = luns[2];
+        n.luns[2] = Lun {
+            copyback: v == 1,
+            ..l
+        };
+    }
+    n
+}
+
 fn output(field: usize, v: usize) -> Output {
     match field {
         16 => Output::Register {
@@ -87,16 +109,18 @@ fn due(first: First, column: usize, row: usize) -> Sequence {
     Sequence::Due(wait)
 }
 
-fn filling(row: usize, at: usize) -> Sequence {
+fn filling(first: First, row: usize, at: usize) -> Sequence {
     let fill = Fill {
+        first,
         row: Row(row),
         at: Column(at),
     };
     Sequence::Filling(fill)
 }
 
-fn moving(row: usize) -> Sequence {
+fn moving(first: First, row: usize) -> Sequence {
     let moved = Moved {
+        first,
         row: Row(row),
         got: 1,
         low: 0,
@@ -112,6 +136,27 @@ fn setting(got: usize) -> Sequence {
     Sequence::Setting(bytes)
 }
 
+// The first command of a byte; the program's where there is none.
+fn opener(v: usize) -> First {
+    match first_of((v % 256) as u8) {
+        FirstFound::Nothing => First::Program,
+        FirstFound::Found(first) => first,
+    }
+}
+
+fn program(field: usize, v: usize) -> Sequence {
+    match field {
+        38 => filling(First::Program, 0, v),
+        39 => filling(First::Program, v, 0),
+        40 => moving(First::Program, v),
+        42 => filling(First::CopybackProgram, 0, v),
+        43 => filling(First::CopybackProgram, v, 0),
+        44 => moving(First::CopybackProgram, v),
+        45 => filling(opener(v), 0, 0),
+        _ => moving(opener(v), 0),
+    }
+}
+
 fn sequence(field: usize, v: usize) -> Sequence {
     match field {
         32 => due(First::Read, v, 0),
@@ -120,10 +165,8 @@ fn sequence(field: usize, v: usize) -> Sequence {
         35 => due(First::ChangeColumnEnhanced, 0, v),
         36 => due(First::ChangeColumn, v, 0),
         37 => due(First::Erase, 0, v),
-        38 => filling(0, v),
-        39 => filling(v, 0),
-        40 => moving(v),
-        _ => setting(v),
+        41 => setting(v),
+        _ => program(field, v),
     }
 }
 
@@ -151,6 +194,7 @@ pub fn spoiled(t: Target, field: usize, v: usize) -> Target {
             let words = worded(w, field, v);
             Target { words, ..t }
         }
+        11..=12 => copying(t, field, v),
         16..=22 => held(t, Sequence::Idle, output(field, v)),
         _ => held(t, sequence(field, v), Output::Nothing),
     }

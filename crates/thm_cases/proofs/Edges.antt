@@ -16,4 +16,15 @@ edges = record {
   no-room = refl;
   room = refl;
   unsigned = refl;
+  before-reset = refl;
+  unknown = refl;
+  misplaced = refl;
+  busy = refl;
+  feature = refl;
+  idle-finish = refl;
+  held-line = refl;
+  full = refl;
+  fuller = refl;
+  full-count = refl;
+  extent = refl;
 }

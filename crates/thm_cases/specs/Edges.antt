@@ -2,12 +2,12 @@
 -- is told and left. The promises themselves are statements of crate `thm_demands`; here each is computed once.
 use mathlib.Core.Path.{_≡_}
 use mathlib.Core.List.{List, [], _∷_, _++_}
-use Prim.Native.Nat.{ℕ}
+use Prim.Native.Nat.{ℕ, zero, suc}
 use lib.ListN.{length, replicate}
 use Rattle.power.specs.Power.{powerNumber, powerOf}
 use Rattle.trace.specs.Run.{runNumber, traceOf}
 use Rattle.thm_cases.specs.Parts.{Part, t1, t1With, first, run, told}
-use Rattle.thm_cases.specs.Cases.{command, reset, column, row, dataIn, dataOut, protect, accepted, byte, refused, read}
+use Rattle.thm_cases.specs.Cases.{command, reset, column, row, dataIn, dataOut, finish, protect, accepted, byte, refused, read}
 
 -- 80h, row 0, one byte and 10h, without a finish
 abbrev pub begun : List ℕ → List ℕ
@@ -38,6 +38,18 @@ abbrev pub behindFirst : List ℕ → List ℕ
 behindFirst [] = []
 behindFirst (v ∷ rest) = rest
 
+-- so many programs of row 0, each with its finish, and a status
+abbrev pub programs : ℕ → List ℕ → List ℕ
+programs zero rest = rest
+programs (suc n) rest = begun (finish 0 (programs n rest))
+
+-- rows 3 and 4 programmed, the last of one block and the first of the next, and the first block erased
+abbrev pub erased : List ℕ
+erased =
+    reset (command 0x80 (column 0 0 (row 3 (command 0x10 (finish 0
+    (command 0x80 (column 0 0 (row 4 (command 0x10 (finish 0
+    (command 0x60 (row 0 (command 0xd0 [])))))))))))))
+
 pub record Edges : Type 0 where
   -- "While the protect line is low no event changes the array or the program counts": 10h is 7 then, and does nothing
   pub low-told : told (t1With 0xa5 0) (lined 0) ≡ accepted 9 (refused 7 [])
@@ -54,3 +66,23 @@ pub record Edges : Type 0 where
   pub room : roomed 4 (reset (7 ∷ [])) ≡ 0
   -- the lowest of 20 to 25: signature and CRC are both wrong here
   pub unsigned : poweredBy 0x4e (behindFirst (t1 .params)) ≡ 21
+  -- 2: a cycle before the first FFh
+  pub before-reset : told t1 (command 0x70 []) ≡ refused 2 []
+  -- 1: a byte that is no command, inside a sequence too
+  pub unknown : told t1 (reset (command 0x80 (command 0x0b []))) ≡ accepted 2 (refused 1 [])
+  -- 3: a second command with no sequence open
+  pub misplaced : told t1 (reset (command 0xe0 [])) ≡ accepted 1 (refused 3 [])
+  -- 6: 90h while a LUN works
+  pub busy : told t1 (reset (begun (command 0x90 []))) ≡ accepted 9 (refused 6 [])
+  -- 9: a feature byte that is neither 00h nor 40h
+  pub feature : told t1 (reset (command 0xef (1 ∷ 1 ∷ dataIn 0x41 []))) ≡ accepted 3 (refused 9 [])
+  -- 10: the finish of a LUN that does not work
+  pub idle-finish : told t1 (reset (finish 1 [])) ≡ accepted 1 (refused 10 [])
+  -- 11: the protect line, to the level it has, inside a sequence
+  pub held-line : told t1 (reset (command 0x80 (protect 1 []))) ≡ accepted 2 (refused 11 [])
+  -- four programs a page and no fifth: the fifth fails, and the count stays
+  pub full : told t1 (reset (programs 4 (command 0x70 (dataOut [])))) ≡ accepted 38 (byte 0xe0 [])
+  pub fuller : told t1 (reset (programs 5 (command 0x70 (dataOut [])))) ≡ accepted 47 (byte 0xe1 [])
+  pub full-count : run t1 (reset (programs 5 [])) .buffers .counts ≡ 4 ∷ replicate 63 0
+  -- an erase sets its block's counts to 0, and no other's
+  pub extent : run t1 erased .buffers .counts ≡ 0 ∷ 0 ∷ 0 ∷ 0 ∷ 1 ∷ replicate 59 0
