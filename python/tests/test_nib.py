@@ -291,7 +291,7 @@ class Errors(Nib):
             self.assertEqual(held(self.part), before)
 
     def test_words_that_are_none(self) -> None:
-        for text, told in ((b"c zz", "place 3: 'zz': not two hex digits"), (b"80", "place 1: '80': no letter of c a d o f p x stands"),
+        for text, told in ((b"c zz", "place 3: 'zz': not two hex digits"), (b"80", "place 1: '80': no letter of c a d o f p x, and no job's word"),
                            (b"c", "place 1: 'c': a letter with no value"), (b"f 256", "place 3: '256': not a decimal number, or too large"),
                            (b"o 65536", "place 3: '65536': not a decimal number, or too large"), (b"c 800", "place 3: '800': not two"),
                            (b"o -1", "place 3: '-1': not a decimal"), (b"x 7", "place 3: '7': not two hex digits")):
