@@ -154,7 +154,7 @@ class Names(unittest.TestCase):
             said = done(["nm", "--undefined-only", *words, str(ROOT / "target" / "host" / name)])
             self.assertEqual(said.returncode, 0, said.stdout)
             asked = set(re.findall(r"^ +U (\w+)", said.stdout, re.M))
-            self.assertIn("memcpy", asked)
+            self.assertTrue(asked, "nm names nothing: is this the library?")
             self.assertLessEqual(asked, {"memcpy", "memset", "memmove", "memcmp", "bcmp"})
 
 
