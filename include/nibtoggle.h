@@ -43,15 +43,15 @@ extern "C" {
 
 /* The version of this header; nib_version() is that of the library, and has the same number: major, minor and patch,
  * a byte each. While major is 0, a change of minor may change the record. */
-#define NIB_VERSION "0.3.0"
-#define NIB_VERSION_NUMBER UINT32_C(768)
+#define NIB_VERSION "0.4.0"
+#define NIB_VERSION_NUMBER UINT32_C(1024)
 uint32_t nib_version(void);
 
 /* ---- The record ----
  *
  * Plain numbers: it may be copied, stored, compared byte by byte (padding aside) and written to a file for the same
  * kind of machine. A new record is made by nib_power_on, which reads nothing of what was there before. Reading it is
- * welcome; whoever writes to it gets 13, or a target in the state that was written. 112 bytes where size_t has 8. */
+ * welcome; whoever writes to it gets 13, or a target in the state that was written. 128 bytes where size_t has 8. */
 typedef struct nib_target {
     /* The part, as its page says. */
     uint16_t data_bytes;    /* of a page: 16 to 16384 */
@@ -67,13 +67,17 @@ typedef struct nib_target {
     size_t column, row;     /* of the open sequence; 0 where it has none */
     size_t output_lun;      /* LUN whose register or status comes out; 0 where the output has none */
     size_t output_at;       /* place of the next byte that comes out; 0 where the output has none */
-    /* 0 or 1, each of them, down to fail; and copyback at the end. */
+    size_t kept_lun;        /* the same two of the output that is kept behind a status */
+    size_t kept_at;
+    /* 0 or 1, each of them, down to fail; and copyback below. */
     uint8_t powered;        /* 0: every event is refused with 13 */
     uint8_t high;           /* the protect line is high: programs and erases are allowed */
     uint8_t clear;          /* program-clear is on: 80h clears the addressed LUN's register alone */
     uint8_t seen;           /* the first FFh has come */
     uint8_t working[4];     /* by LUN: from 30h, 35h, 10h or D0h to its finish event */
-    uint8_t fail[4];        /* by LUN: the last program or erase failed */
+    uint8_t fail[4];        /* by LUN: the last program or erase failed: it was accepted, and did not proceed. A program
+                               does not on a bad block, on a page programmed as often as it may be, and out of page
+                               order (NIB_FEATURE_ANY_ORDER); an erase does not on a bad block */
     /* ID bytes, as 90h with 00h gives them. */
     uint8_t maker, device;
     /* The open sequence. */
@@ -84,12 +88,17 @@ typedef struct nib_target {
     uint8_t value;          /* the first byte of a half-given feature */
     uint8_t output;         /* enum nib_output: what data-out cycles give */
     uint8_t copyback[4];    /* by LUN: 35h has read a page, and 85h may program it */
+    uint8_t kept;           /* enum nib_output: what was open before a status, for 00h and data out to go on with; never
+                               a status */
 } nib_target;
 
 /* Features supported, bits of bytes 6 and 7 of the parameter bytes. */
 enum nib_feature {
     NIB_FEATURE_WIDE_BUS = 1 << 0,          /* 16 bits: the model has no such part */
     NIB_FEATURE_MORE_LUNS = 1 << 1,         /* more LUNs than one */
+    NIB_FEATURE_ANY_ORDER = 1 << 2,         /* a block's pages may be programmed in any order; without it a 10h for a
+                                               page below one of its block whose count is above 0 does not proceed,
+                                               and FAIL is 1 */
     NIB_FEATURE_PROGRAM_CLEAR = 1 << 8      /* 80h may clear the addressed LUN's register alone */
 };
 
@@ -103,7 +112,7 @@ enum nib_optional {
 
 enum nib_first {
     NIB_FIRST_READ = 0,                     /* 00h */
-    NIB_FIRST_CHANGE_COLUMN = 1,            /* 05h: change read column */
+    NIB_FIRST_CHANGE_COLUMN = 1,            /* 05h: change read column, of a page register */
     NIB_FIRST_CHANGE_COLUMN_ENHANCED = 2,   /* 06h: change read column enhanced */
     NIB_FIRST_ERASE = 3,                    /* 60h */
     NIB_FIRST_STATUS = 4,                   /* 70h */
@@ -113,7 +122,9 @@ enum nib_first {
     NIB_FIRST_PARAMETER_PAGE = 8,           /* ECh */
     NIB_FIRST_GET_FEATURES = 9,             /* EEh */
     NIB_FIRST_SET_FEATURES = 10,            /* EFh */
-    NIB_FIRST_COPYBACK_PROGRAM = 11         /* 85h with no sequence open */
+    NIB_FIRST_COPYBACK_PROGRAM = 11,        /* 85h with no sequence open */
+    NIB_FIRST_CHANGE_COLUMN_IN_PAGE = 12    /* 05h with the parameter page open, or kept behind a status: its columns
+                                               are below 768 */
 };
 
 enum nib_sequence {
@@ -253,8 +264,9 @@ uint32_t nib_trace(nib_target *t, const uint8_t *records, size_t records_length,
 /* The unread rest of the output, as a part of a lent buffer: the bytes that the next data-out cycles would give, up
  * to the end of the register or of the present copy of the parameter page. One number: which buffer, times 2^60,
  * plus where the part starts in it, times 2^30, plus its length. Buffer 1 is registers, 2 the parameter bytes, 0
- * none: no such output is open, the register's LUN works, all has been read, or the record, page_length or
- * registers_length is refused by 13; start and length are then 0. Changes nothing. */
+ * none: no such output is open (nor is it behind a status, or after a bare 00h until its data out), the register's
+ * LUN works, all has been read, or the record, page_length or registers_length is refused by 13; start and length are
+ * then 0. Changes nothing. */
 uint64_t nib_rest(const nib_target *t, const uint8_t *page, size_t page_length,
                   const uint8_t *registers, size_t registers_length);
 

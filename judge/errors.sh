@@ -66,6 +66,36 @@ a move makes a plain program of a copyback
 85h clears every register while program-clear is off
 a copyback's 10h refused by 7 closes it
 a lone 85h is accepted without optional bit 4
+78h of another LUN keeps the memory
+a refused cycle keeps the memory
+00h straight after output goes on
+after 00h the next byte is the first again
+the page stays kept behind 78h, for 00h and 05h
+a bench refusal loses the memory
+05h within the page takes columns below P
+the first address after 00h keeps the memory
+only a register is kept
+a second status loses the memory
+78h loses the memory at its command
+data out after 00h gives a working LUN's byte
+a bare 00h is no sequence for the protect line
+behind a status the rest is the memory's
+after a bare 00h the rest is the memory's
+FFh leaves the memory
+05h does not see the page behind 70h
+05h where the page is all read is the register's
+05h is accepted after a bare 00h
+a finish or protect event loses the memory
+the same page again fails by page order
+a lower page's count is looked at
+another block's counts are looked at
+feature bit 2 the wrong way round
+the top page is left out of the scan
+a copyback's 10h is not held to page order
+a program out of order fails and is done
+only the next page is looked at
+page order whatever feature bit 2 says
+only counts above 1 are looked at
 LIST
 }
 

@@ -155,9 +155,9 @@ static void mend_crc(uint8_t *page)
 static uint64_t feature_bits(uint64_t *g)
 {
     uint64_t options = g[G_FIELD + F_OPTIONS];
-    uint64_t low = below(g, 64);
+    uint64_t low = below(g, 32);
     uint64_t high = below(g, 128);
-    return g[G_FIELD + F_WIDE] + g[G_FIELD + F_MANY] * 2 + low * 4
+    return g[G_FIELD + F_WIDE] + g[G_FIELD + F_MANY] * 2 + options / 32 % 2 * 4 + low * 8
         + options / 8 % 2 * 256 + high * 512;
 }
 
@@ -343,14 +343,18 @@ static uint64_t edge_row(uint64_t *g, uint64_t lun, uint64_t block, uint64_t pag
     return row_of(g, lun, block, page);
 }
 
+/* How many of n there are to pick from. */
+static uint64_t spot(const uint64_t *g, uint64_t n)
+{
+    if (g[G_KNOB + K_SPOT] == 1)
+        return at_most(n, 2);
+    return n;
+}
+
 static uint64_t pick_row(uint64_t *g, uint64_t lun)
 {
-    uint64_t pages = g[G_FIELD + F_PAGES];
-    uint64_t blocks = g[G_FIELD + F_BLOCKS];
-    if (g[G_KNOB + K_SPOT] == 1) {
-        pages = at_most(pages, 2);
-        blocks = at_most(blocks, 2);
-    }
+    uint64_t pages = spot(g, g[G_FIELD + F_PAGES]);
+    uint64_t blocks = spot(g, g[G_FIELD + F_BLOCKS]);
     uint64_t page = below(g, pages);
     uint64_t block = below(g, blocks);
     if (chance(g, g[G_KNOB + K_EDGE]) == 1)
@@ -564,12 +568,18 @@ static void job_lun_status(uint64_t *g, uint8_t *records)
     }
 }
 
-static void job_status(uint64_t *g, uint8_t *records)
+/* 70h; with care, no LUN but the selected one works. */
+static void put_status(uint64_t *g, uint8_t *records)
 {
     for (uint64_t lun = 0; lun < g[G_FIELD + F_LUNS]; lun++)
         if (lun != g[G_SELECTED])
             make_ready(g, records, lun);
     command(g, records, 0x70);
+}
+
+static void job_status(uint64_t *g, uint8_t *records)
+{
+    put_status(g, records);
     take_out(g, records, 1 + below(g, 3));
 }
 
@@ -721,6 +731,181 @@ static void job_copy(uint64_t *g, uint8_t *records)
         read_page(g, records, lun, row);
 }
 
+/* ---- Polling jobs: a status, then 00h and data out go on with the output before it ---- */
+
+/* 70h, or 78h of this LUN, or at times of any; and perhaps bytes of it. */
+static void ask_status(uint64_t *g, uint8_t *records, uint64_t lun)
+{
+    uint64_t what = below(g, 8);
+    uint64_t any = pick_lun(g);
+    uint64_t bytes = below(g, 3);
+    if (what == 7)
+        lun = any;
+    uint64_t row = pick_row(g, lun);
+    if (what < 4) {
+        put_status(g, records);
+    } else {
+        command(g, records, 0x78);
+        put_row(g, records, lun, row);
+    }
+    take_out(g, records, bytes);
+}
+
+/* Mostly nothing; or a bench event, which keeps the memory, or a cycle that doesn't fit. */
+static void put_between(uint64_t *g, uint8_t *records)
+{
+    uint64_t what = below(g, 24);
+    uint64_t lun = pick_lun(g);
+    if (what == 0)
+        put_finish(g, records, lun);
+    if (what == 1)
+        put(g, records, 5, 1);
+    if (what == 2)
+        put_bad(g, records);
+    if (what == 3)
+        put(g, records, 1, 0);
+    if (what == 4)
+        put(g, records, 2, 0);
+    if (what == 5)
+        put(g, records, 0, 0xE0);
+    if (what == 6)
+        put(g, records, 0, 0x05);
+}
+
+/* None to three statuses, 00h, and n bytes. With care the LUN's finish comes before the statuses, among them, after 00h
+ * or, one time in eight, not at all. */
+static void poll(uint64_t *g, uint8_t *records, uint64_t lun, uint64_t n)
+{
+    uint64_t when = below(g, 8);
+    uint64_t statuses = below(g, 8);
+    if (when < 3)
+        make_ready(g, records, lun);
+    if (statuses > 0)
+        ask_status(g, records, lun);
+    if (when < 6)
+        make_ready(g, records, lun);
+    if (statuses > 4)
+        ask_status(g, records, lun);
+    if (statuses > 6)
+        ask_status(g, records, lun);
+    put_between(g, records);
+    command(g, records, 0x00);
+    if (when == 6)
+        make_ready(g, records, lun);
+    put_between(g, records);
+    take_out(g, records, n);
+}
+
+/* A page read by 30h or 35h and polled for; at times some bytes come first, and at times it is polled for again. */
+static void job_poll(uint64_t *g, uint8_t *records)
+{
+    uint64_t lun = pick_lun(g);
+    uint64_t row = pick_row(g, lun);
+    uint64_t column = pick_column(g);
+    uint64_t copy = below(g, 4);
+    uint64_t first = below(g, 8);
+    make_ready(g, records, lun);
+    command(g, records, 0x00);
+    put_column(g, records, column);
+    put_row(g, records, lun, row);
+    command(g, records, copy == 0 ? 0x35 : 0x30);
+    set_busy(g, lun);
+    if (first < 4) {
+        make_ready(g, records, lun);
+        take_out(g, records, first);
+    }
+    uint64_t n = pick_length(g, column);
+    poll(g, records, lun, n);
+    if (below(g, 3) == 0)
+        poll(g, records, lun, 1 + below(g, 4));
+}
+
+/* Output of every other kind, polled for. */
+static void job_poll_other(uint64_t *g, uint8_t *records)
+{
+    uint64_t what = below(g, 8);
+    uint64_t n = below(g, 6);
+    if (what < 3)
+        job_id(g, records);
+    else if (what < 5)
+        job_parameters(g, records);
+    else if (what == 5)
+        job_get(g, records);
+    else if (what == 6)
+        job_out(g, records);
+    else
+        job_lun_out(g, records);
+    poll(g, records, g[G_SELECTED], n);
+}
+
+/* Columns around the ends of the copies and of a register. */
+static uint64_t page_column(uint64_t *g)
+{
+    uint64_t what = below(g, 8);
+    uint64_t more = below(g, 3);
+    if (what < 3)
+        return 766 + more;
+    if (what == 3)
+        return 254 + more;
+    if (what == 4)
+        return 511 + more;
+    if (what == 5)
+        return g[G_SIZE] - 1 + more;
+    return below(g, 768);
+}
+
+/* 05h, which moves within the parameter page where that is open or kept behind 70h. */
+static void page_move(uint64_t *g, uint8_t *records)
+{
+    uint64_t column = page_column(g);
+    uint64_t n = below(g, 4);
+    command(g, records, 0x05);
+    put_column(g, records, column);
+    command(g, records, 0xE0);
+    take_out(g, records, n);
+}
+
+/* The parameter page, perhaps behind a status or polled for, and moves within it. */
+static void job_page(uint64_t *g, uint8_t *records)
+{
+    uint64_t what = below(g, 8);
+    uint64_t again = below(g, 4);
+    uint64_t n = below(g, 3);
+    make_all_ready(g, records);
+    command(g, records, 0xEC);
+    address(g, records, 0);
+    take_out(g, records, n);
+    if (what < 3)
+        ask_status(g, records, g[G_SELECTED]);
+    if (what == 3)
+        poll(g, records, g[G_SELECTED], n);
+    put_between(g, records);
+    page_move(g, records);
+    if (again > 0)
+        page_move(g, records);
+    if (again > 1)
+        ask_status(g, records, g[G_SELECTED]);
+    if (again > 1)
+        page_move(g, records);
+    if (again > 2)
+        poll(g, records, g[G_SELECTED], n);
+}
+
+/* 00h after whatever came before, with or without a status; perhaps its first address; then data out, and a poll. */
+static void job_bare(uint64_t *g, uint8_t *records)
+{
+    uint64_t what = below(g, 6);
+    uint64_t lun = g[G_SELECTED];
+    if (what < 4)
+        ask_status(g, records, lun);
+    command(g, records, 0x00);
+    if (what % 2 == 1)
+        address(g, records, 0);
+    put_between(g, records);
+    take_out(g, records, 1);
+    poll(g, records, lun, 1);
+}
+
 /* The line goes low, something is tried, and mostly it goes high again. */
 static void job_low(uint64_t *g, uint8_t *records)
 {
@@ -750,14 +935,20 @@ static void job_finish(uint64_t *g, uint8_t *records)
     put_finish(g, records, below(g, g[G_FIELD + F_LUNS] + 2));
 }
 
-/* A program, its status, and the page read back. */
+/* A program and its status. */
+static void program_looked(uint64_t *g, uint8_t *records, uint64_t lun, uint64_t row)
+{
+    program_page(g, records, lun, row);
+    make_ready(g, records, lun);
+    job_status(g, records);
+}
+
+/* The same, and the page read back. */
 static void job_back(uint64_t *g, uint8_t *records)
 {
     uint64_t lun = pick_lun(g);
     uint64_t row = pick_row(g, lun);
-    program_page(g, records, lun, row);
-    make_ready(g, records, lun);
-    job_status(g, records);
+    program_looked(g, records, lun, row);
     read_page(g, records, lun, row);
 }
 
@@ -767,13 +958,42 @@ static void job_twice(uint64_t *g, uint8_t *records)
     uint64_t lun = pick_lun(g);
     uint64_t row = pick_row(g, lun);
     uint64_t n = 1 + below(g, g[G_FIELD + F_PROGRAMS] + 1);
-    for (uint64_t i = 0; i < n; i++) {
-        program_page(g, records, lun, row);
-        make_ready(g, records, lun);
-        job_status(g, records);
-    }
+    for (uint64_t i = 0; i < n; i++)
+        program_looked(g, records, lun, row);
     if (below(g, 3) == 0)
         erase_block(g, records, lun, row);
+}
+
+/* The page to program after this one: one lower (ways 0, 1), one higher (2), at times the same, else any. */
+static uint64_t next_page(uint64_t *g, uint64_t way, uint64_t page)
+{
+    uint64_t pages = g[G_FIELD + F_PAGES];
+    uint64_t any = below(g, pages);
+    uint64_t same = below(g, 4);
+    if (same == 0)
+        return page;
+    if (way < 2 && page > 0)
+        return page - 1;
+    if (way == 2 && page + 1 < pages)
+        return page + 1;
+    return any;
+}
+
+/* Programs in one block, downward, upward or anyhow; half of the time it is erased first. */
+static void job_order(uint64_t *g, uint8_t *records)
+{
+    uint64_t lun = pick_lun(g);
+    uint64_t blocks = spot(g, g[G_FIELD + F_BLOCKS]);
+    uint64_t block = below(g, blocks);
+    uint64_t page = below(g, g[G_FIELD + F_PAGES]);
+    uint64_t way = below(g, 4);
+    uint64_t n = 2 + below(g, 3);
+    if (below(g, 2) == 0)
+        erase_block(g, records, lun, row_of(g, lun, block, page));
+    for (uint64_t i = 0; i < n; i++) {
+        program_looked(g, records, lun, row_of(g, lun, block, page));
+        page = next_page(g, way, page);
+    }
 }
 
 static void one_job(uint64_t *g, uint8_t *records, uint64_t job)
@@ -798,7 +1018,12 @@ static void one_job(uint64_t *g, uint8_t *records, uint64_t job)
     case J_COPY: job_copy(g, records); break;
     case J_COPY_READ: job_copy_read(g, records); break;
     case J_COPY_WRITE: job_copy_write(g, records); break;
-    default: job_give_up(g, records); break;
+    case J_GIVE_UP: job_give_up(g, records); break;
+    case J_POLL: job_poll(g, records); break;
+    case J_POLL_OTHER: job_poll_other(g, records); break;
+    case J_PAGE: job_page(g, records); break;
+    case J_BARE: job_bare(g, records); break;
+    default: job_order(g, records); break;
     }
 }
 
@@ -1061,19 +1286,33 @@ static void absorb_rest(const struct plain_target *t, uint64_t *g, const uint8_t
     show(g, "rest", which, start, length, 0);
 }
 
-/* The record's numbers that no reply need show: which LUNs have a copyback open. */
+/* The record's numbers that no reply need show: which LUNs have a copyback open, and what a status keeps. */
 static void absorb_record(const struct plain_target *t, uint64_t *g)
 {
     const struct plain_lun *l = t->lun;
+    const struct plain_output *kept = &t->kept;
     for (uint64_t i = 0; i < PLAIN_MAX_LUNS; i++)
         absorb(g, l[i].copyback);
     show(g, "copybacks", l[0].copyback, l[1].copyback, l[2].copyback, l[3].copyback);
+    absorb(g, kept->kind);
+    absorb(g, kept->lun);
+    absorb(g, kept->next);
+    show(g, "kept", kept->kind, kept->lun, kept->next, 0);
 }
 
 static void set_output(struct plain_target *t, uint8_t kind, uint64_t lun, uint64_t next)
 {
     t->sequence = (struct plain_sequence){0};
     t->output = (struct plain_output){.kind = kind, .lun = (uint32_t)lun, .next = (uint32_t)next};
+    t->kept = (struct plain_output){0};
+}
+
+/* A bare 00h, with this kept. */
+static void set_kept(struct plain_target *t, uint8_t kind, uint64_t lun, uint64_t next)
+{
+    t->sequence = (struct plain_sequence){.kind = PLAIN_SEQ_READ};
+    t->output = (struct plain_output){0};
+    t->kept = (struct plain_output){.kind = kind, .lun = (uint32_t)lun, .next = (uint32_t)next};
 }
 
 /* Spoils of the record's own numbers. */
@@ -1122,11 +1361,33 @@ static void spoil_output(struct plain_target *t, uint64_t what)
     }
 }
 
+/* Spoils of what is kept, and from 63 on their legal neighbours. */
+static void spoil_kept(struct plain_target *t, uint64_t what)
+{
+    switch (what) {
+    case 55: set_kept(t, PLAIN_OUT_REGISTER, 0, t->page_size + 1); break;
+    case 56: set_kept(t, PLAIN_OUT_REGISTER, t->luns, 0); break;
+    case 57: set_kept(t, PLAIN_OUT_STATUS, 0, 0); break;
+    case 58: set_kept(t, PLAIN_OUT_PARAMETERS, 0, 769); break;
+    case 59: set_kept(t, PLAIN_OUT_IDS, 0, 3); break;
+    case 60: set_kept(t, PLAIN_OUT_SIGNATURE, 0, 5); break;
+    case 61: set_kept(t, PLAIN_OUT_FEATURE, 0, 5); break;
+    case 63: set_kept(t, PLAIN_OUT_REGISTER, t->luns - 1, t->page_size); break;
+    case 64: set_kept(t, PLAIN_OUT_PARAMETERS, 0, 768); break;
+    case 65: set_kept(t, PLAIN_OUT_IDS, 0, 2); break;
+    case 66: set_kept(t, PLAIN_OUT_SIGNATURE, 0, 4); break;
+    case 67: set_kept(t, PLAIN_OUT_FEATURE, 0, 4); break;
+    case 68: set_kept(t, PLAIN_OUT_REGISTER, t->luns - 1, t->page_size - 1); break;
+    default: break;
+    }
+}
+
 /* A sequence whose addresses have all come. */
 static void set_sequence(struct plain_target *t, uint8_t kind, uint8_t cycles, uint64_t column,
                          uint64_t lun, uint64_t block, uint64_t page)
 {
     t->output = (struct plain_output){0};
+    t->kept = (struct plain_output){0};
     t->sequence = (struct plain_sequence){
         .kind = kind, .cycles = cycles, .column = (uint32_t)column,
         .page = (uint32_t)page, .block = (uint32_t)block, .lun = (uint32_t)lun};
@@ -1153,6 +1414,7 @@ static void spoil_sequence(struct plain_target *t, uint64_t what)
     case 50: set_sequence(t, PLAIN_SEQ_COPYBACK, 5, size + 1, 0, 0, 0); break;
     case 51: set_sequence(t, PLAIN_SEQ_COPYBACK, 5, 0, luns, 0, 0); break;
     case 52: set_sequence(t, PLAIN_SEQ_MOVE, 0, 0, luns, 0, 0); t->sequence.first = 0x85; break;
+    case 62: set_sequence(t, PLAIN_SEQ_COLUMN, 2, 768, 0, 0, 0); t->sequence.in_page = true; break;
     default: break;
     }
 }
@@ -1170,6 +1432,7 @@ static void legal_sequence(struct plain_target *t, const uint64_t *g, uint64_t w
     case 45: set_sequence(t, PLAIN_SEQ_LUN_COLUMN, 5, size - 1, lun, block, page); break;
     case 46: set_sequence(t, PLAIN_SEQ_READ, 5, size - 1, lun, t->blocks - 1, t->pages - 1); break;
     case 53: set_sequence(t, PLAIN_SEQ_COPYBACK, 5, size, lun, t->blocks - 1, t->pages - 1); break;
+    case 69: set_sequence(t, PLAIN_SEQ_COLUMN, 2, 767, 0, 0, 0); t->sequence.in_page = true; break;
     default: break;
     }
 }
@@ -1228,7 +1491,9 @@ static uint64_t is_legal(uint64_t what)
         return 1;
     if (what >= 43 && what <= 46)
         return 1;
-    if (what >= 53)
+    if (what == 53 || what == 54)
+        return 1;
+    if (what >= 63)
         return 1;
     return 0;
 }
@@ -1253,6 +1518,7 @@ static void run_spoiled(const struct plain_target *t, uint64_t *g, uint8_t *repl
     show(g, "spoil", what, follow, 0, 0);
     spoil_number(&c, what);
     spoil_output(&c, what);
+    spoil_kept(&c, what);
     spoil_sequence(&c, what);
     legal_sequence(&c, g, what);
     spoil_length(g, what);
@@ -1599,6 +1865,7 @@ static void print_totals(const uint64_t *total)
  *   room PLACE ROOM ANSWER 0    a batch with too little room
  *   rest WHICH START LENGTH 0   the unread rest
  *   copybacks OPEN OPEN OPEN OPEN   by LUN, 1 where one is open
+ *   kept KIND LUN NEXT 0        what a status keeps: the kind as in plain.h, 0 nothing
  *   spoil WHAT FOLLOW 0 0       what follows is on a spoiled copy
  *   buffers 0 0 0 0             the end of the trace
  * and last the first digest. A reply is its first byte times 256 plus the second. */

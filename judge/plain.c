@@ -48,7 +48,7 @@ static const struct shape {
 static const uint8_t signature[4] = {'O', 'N', 'F', 'I'};
 
 /* Bits of the two words. */
-enum { FEATURE_WIDE = 0, FEATURE_LUNS = 1, FEATURE_CLEAR = 8 };
+enum { FEATURE_WIDE = 0, FEATURE_LUNS = 1, FEATURE_ANY_ORDER = 2, FEATURE_CLEAR = 8 };
 enum { OPTION_FEATURES = 2, OPTION_78H = 3, OPTION_COPYBACK = 4, OPTION_06H = 6 };
 
 static bool has(uint16_t word, unsigned bit)
@@ -63,9 +63,12 @@ static bool in_limits(uint32_t n, uint32_t low, uint32_t high)
     return low <= n && n <= high;
 }
 
-static bool column_exists(const struct plain_target *t, uint32_t column)
+/* A whole column: below P, or for 05h within the parameter page below 768. */
+static bool column_exists(const struct plain_target *t, const struct plain_sequence *s)
 {
-    return column < ERR(6, t->page_size + 1, t->page_size);
+    if (s->in_page && ERR(63, false, true))
+        return s->column < PLAIN_COPIES_END;
+    return s->column < ERR(6, t->page_size + 1, t->page_size);
 }
 
 static bool geometry_usable(const struct plain_target *t)
@@ -139,7 +142,7 @@ static bool sequence_usable(const struct plain_target *t)
         return false;
     if (shape->columns != 0 && n >= 2) {
         bool taking = (s->kind == PLAIN_SEQ_PROGRAM || s->kind == PLAIN_SEQ_COPYBACK) && n == 5;
-        if (!column_exists(t, s->column) && !(taking && s->column == t->page_size))
+        if (!column_exists(t, s) && !(taking && s->column == t->page_size))
             return false;
     }
 
@@ -155,9 +158,8 @@ static bool sequence_usable(const struct plain_target *t)
     return true;
 }
 
-static bool output_usable(const struct plain_target *t)
+static bool output_usable(const struct plain_target *t, const struct plain_output *o)
 {
-    const struct plain_output *o = &t->output;
     switch (o->kind) {
     case PLAIN_OUT_NONE:
         return true;
@@ -180,7 +182,8 @@ static bool output_usable(const struct plain_target *t)
 static bool record_usable(const struct plain_target *t)
 {
     return t->powered && geometry_usable(t)
-        && luns_usable(t) && sequence_usable(t) && output_usable(t);
+        && luns_usable(t) && sequence_usable(t)
+        && output_usable(t, &t->output) && output_usable(t, &t->kept) && t->kept.kind != PLAIN_OUT_STATUS;
 }
 
 static bool usable(const struct plain_target *t, const struct lent *b)
@@ -229,12 +232,19 @@ static void open_output(struct plain_target *t, uint8_t kind, uint32_t lun, uint
     t->output = (struct plain_output){.kind = kind, .lun = lun, .next = next};
 }
 
-/* What a refused bus cycle leaves. */
+static void forget(struct plain_target *t)
+{
+    t->kept = (struct plain_output){0};
+}
+
+/* What a refused bus cycle leaves: the memory counts as output. */
 static void drop(struct plain_target *t)
 {
     close_sequence(t);
     if (ERR(5, false, true))
         t->output = (struct plain_output){0};
+    if (ERR(58, false, true))
+        forget(t);
 }
 
 static void start_work(struct plain_target *t, uint32_t lun, bool fail)
@@ -261,8 +271,68 @@ static uint32_t first_command(struct plain_target *t, uint8_t kind)
     if (t->sequence.kind != PLAIN_SEQ_NONE)
         return REFUSED(3);
     t->output = (struct plain_output){0};
+    forget(t);
     t->sequence.kind = kind;
     return ACCEPTED;
+}
+
+static bool status_open(const struct plain_target *t)
+{
+    uint8_t kind = t->output.kind;
+    return kind == PLAIN_OUT_STATUS || (kind == PLAIN_OUT_NONE && ERR(58, true, ERR(72, true, false)));
+}
+
+/* What a status would keep now: the output that is open, or what an earlier status keeps. */
+static struct plain_output behind_status(const struct plain_target *t)
+{
+    struct plain_output none = {0};
+    if (status_open(t))
+        return ERR(66, none, t->kept);
+    return ERR(65, t->output.kind != PLAIN_OUT_REGISTER, false) ? none : t->output;
+}
+
+/* 00h. After a status the memory stays, as it may be a bare 00h; straight after other output there is none. */
+static uint32_t read_command(struct plain_target *t)
+{
+    struct plain_output kept = {0};
+    if (status_open(t))
+        kept = t->kept;
+    else if (ERR(59, true, false))
+        kept = t->output;
+    uint32_t reply = first_command(t, PLAIN_SEQ_READ);
+    if (reply == ACCEPTED)
+        t->kept = kept;
+    return reply;
+}
+
+/* 00h so far without an address. */
+static bool bare_00h(const struct plain_target *t)
+{
+    return t->sequence.kind == PLAIN_SEQ_READ && t->sequence.cycles == 0;
+}
+
+/* 05h: with the parameter page open, or kept behind 70h, it moves within the page. */
+static uint32_t column_command(struct plain_target *t)
+{
+    bool kept = status_open(t) && t->kept.kind == PLAIN_OUT_PARAMETERS;
+    bool open = t->output.kind == PLAIN_OUT_PARAMETERS
+        && ERR(74, t->output.next < PLAIN_COPIES_END, true);
+    if (ERR(75, bare_00h(t), false))
+        close_sequence(t);
+    uint32_t reply = first_command(t, PLAIN_SEQ_COLUMN);
+    if (reply == ACCEPTED)
+        t->sequence.in_page = open || ERR(73, false, kept);
+    return reply;
+}
+
+/* 78h: its row decides whether what is kept stays. */
+static uint32_t lun_status_command(struct plain_target *t)
+{
+    struct plain_output kept = behind_status(t);
+    uint32_t reply = first_command(t, PLAIN_SEQ_STATUS);
+    if (reply == ACCEPTED && ERR(67, false, true))
+        t->kept = kept;
+    return reply;
 }
 
 /* 90h, ECh, EEh, EFh: all LUNs ready. */
@@ -280,6 +350,7 @@ static uint32_t status_command(struct plain_target *t)
         return REFUSED(3);
     if (other_works(t, t->selected))
         return REFUSED(6);
+    t->kept = behind_status(t);
     open_output(t, PLAIN_OUT_STATUS, t->selected, 0);
     return ACCEPTED;
 }
@@ -321,6 +392,22 @@ static uint32_t read_start(struct plain_target *t, const struct lent *b, bool co
     return ACCEPTED;
 }
 
+/* Page order: without feature bit 2 no page is programmed below one of its block that has been. The counts as they are
+ * now decide; the page's own count is the other rule's. */
+static bool out_of_order(const struct plain_target *t, const struct lent *b, const struct plain_sequence *s)
+{
+    size_t block = block_index(t, s->lun, s->block);
+    const uint8_t *counts = b->counts + ERR(79, (block + 1) % b->flags_len, block) * t->pages;
+    uint32_t from = ERR(77, s->page, ERR(78, 0, s->page + 1));
+    uint32_t end = ERR(81, t->pages - 1, ERR(84, s->page + 2 < t->pages ? s->page + 2 : t->pages, t->pages));
+    if (ERR(80, !has(t->features, FEATURE_ANY_ORDER), ERR(85, false, has(t->features, FEATURE_ANY_ORDER))))
+        return false;
+    for (uint32_t page = from; page < end; page++)
+        if (counts[page] > ERR(86, 1, 0) && ERR(78, page != s->page, true))
+            return true;
+    return false;
+}
+
 static uint32_t program_start(struct plain_target *t, const struct lent *b)
 {
     if (!takes_data(t) && ERR(27, t->sequence.kind != PLAIN_SEQ_MOVE, true))
@@ -333,9 +420,11 @@ static uint32_t program_start(struct plain_target *t, const struct lent *b)
         return REFUSED(7);
     size_t block = block_index(t, s.lun, s.block);
     size_t page = block * t->pages + s.page;
+    bool late = out_of_order(t, b, &s) && ERR(82, !copyback, true);
     bool fail = b->flags[block] != 0
-        || b->counts[page] >= ERR(9, t->programs + 1, t->programs);
-    if (!fail) {
+        || b->counts[page] >= ERR(9, t->programs + 1, t->programs)
+        || late;
+    if (!fail || ERR(83, late && b->counts[page] < t->programs && b->flags[block] == 0, false)) {
         uint8_t *cells = b->array + page * t->page_size;
         const uint8_t *from = register_of(t, b, s.lun);
         for (uint32_t i = 0; i < t->page_size; i++)
@@ -370,7 +459,9 @@ static uint32_t erase_start(struct plain_target *t, const struct lent *b)
 
 static uint32_t output_start(struct plain_target *t)
 {
-    if (complete(t, PLAIN_SEQ_COLUMN))
+    if (complete(t, PLAIN_SEQ_COLUMN) && t->sequence.in_page)
+        open_output(t, PLAIN_OUT_PARAMETERS, 0, t->sequence.column);
+    else if (complete(t, PLAIN_SEQ_COLUMN))
         open_output(t, PLAIN_OUT_REGISTER, ERR(35, 0, t->selected), t->sequence.column);
     else if (complete(t, PLAIN_SEQ_LUN_COLUMN))
         open_output(t, PLAIN_OUT_REGISTER, t->sequence.lun, t->sequence.column);
@@ -406,6 +497,8 @@ static uint32_t reset(struct plain_target *t, const struct lent *b)
         t->lun[l] = (struct plain_lun){.copyback = ERR(47, t->lun[l].copyback, false)};
     close_sequence(t);
     t->output = (struct plain_output){0};
+    if (ERR(72, false, true))
+        forget(t);
     t->program_clear = ERR(17, t->program_clear, false);
     t->selected = ERR(16, t->selected, 0);
     t->reset_seen = true;
@@ -415,8 +508,8 @@ static uint32_t reset(struct plain_target *t, const struct lent *b)
 static uint32_t command(struct plain_target *t, const struct lent *b, uint8_t c)
 {
     switch (c) {
-    case 0x00: return first_command(t, PLAIN_SEQ_READ);
-    case 0x05: return first_command(t, PLAIN_SEQ_COLUMN);
+    case 0x00: return read_command(t);
+    case 0x05: return column_command(t);
     case 0x06: if (!has(t->optional, OPTION_06H)) break;
                return first_command(t, PLAIN_SEQ_LUN_COLUMN);
     case 0x10: return program_start(t, b);
@@ -426,7 +519,7 @@ static uint32_t command(struct plain_target *t, const struct lent *b, uint8_t c)
     case 0x60: return first_command(t, PLAIN_SEQ_ERASE);
     case 0x70: return status_command(t);
     case 0x78: if (!has(t->optional, OPTION_78H)) break;
-               return first_command(t, PLAIN_SEQ_STATUS);
+               return lun_status_command(t);
     case 0x80: return program_command(t, b);
     case 0x85: if (!takes_data(t)) return copyback_command(t, b);
                if (ERR(50, !has(t->optional, OPTION_COPYBACK), false)) break;
@@ -482,6 +575,16 @@ static void program_row(struct plain_target *t, const struct lent *b)
         memset(register_of(t, b, lun), 0xFF, t->page_size);
 }
 
+/* 78h's row, accepted: only a register of the LUN that it names stays kept. */
+static void status_row(struct plain_target *t)
+{
+    bool same = t->kept.kind == PLAIN_OUT_REGISTER && ERR(57, true, t->kept.lun == t->sequence.lun);
+    bool page = ERR(61, t->kept.kind == PLAIN_OUT_PARAMETERS, false);
+    if (!same && !page)
+        forget(t);
+    open_output(t, PLAIN_OUT_STATUS, t->sequence.lun, 0);
+}
+
 static uint32_t whole_row(struct plain_target *t, const struct lent *b)
 {
     struct plain_sequence *s = &t->sequence;
@@ -514,7 +617,7 @@ static uint32_t whole_row(struct plain_target *t, const struct lent *b)
     if (ERR(37, s->kind != PLAIN_SEQ_LUN_COLUMN, true))
         t->selected = s->lun;
     if (s->kind == PLAIN_SEQ_STATUS)
-        open_output(t, PLAIN_OUT_STATUS, s->lun, 0);
+        status_row(t);
     else if (s->kind == PLAIN_SEQ_PROGRAM)
         program_row(t, b);
     else if (ERR(38, s->kind == PLAIN_SEQ_COPYBACK, false))
@@ -527,10 +630,10 @@ static uint32_t whole_row(struct plain_target *t, const struct lent *b)
 static uint32_t whole_column(struct plain_target *t)
 {
     struct plain_sequence *s = &t->sequence;
-    bool busy = s->kind == PLAIN_SEQ_COLUMN && t->lun[t->selected].working;
+    bool busy = s->kind == PLAIN_SEQ_COLUMN && !s->in_page && t->lun[t->selected].working;
     if (ERR(12, busy, false))
         return REFUSED(5);
-    if (!column_exists(t, s->column))
+    if (!column_exists(t, s))
         return REFUSED(4);
     if (busy)
         return REFUSED(5);
@@ -573,6 +676,8 @@ static uint32_t address(struct plain_target *t, const struct lent *b, uint8_t v)
     unsigned n = s->cycles;
     if (n == shape->cycles)
         return REFUSED(3);
+    if (bare_00h(t) && ERR(64, false, true))
+        forget(t);                      /* it is a plain read */
     s->cycles++;
     if (shape->cycles == 1)
         return short_address(t, v);
@@ -617,14 +722,27 @@ static uint32_t data_in(struct plain_target *t, const struct lent *b, uint8_t v)
     return REFUSED(3);
 }
 
+/* Data out after a bare 00h: what was kept is the open output again. */
+static void go_on(struct plain_target *t)
+{
+    t->output = t->kept;
+    if (ERR(60, true, false))
+        t->output.next = 0;
+    forget(t);
+    close_sequence(t);
+}
+
 static uint32_t data_out(struct plain_target *t, const struct lent *b)
 {
     struct plain_output *o = &t->output;
+    bool resumed = bare_00h(t);
+    if (resumed)
+        go_on(t);
     if (t->sequence.kind != PLAIN_SEQ_NONE)
         return REFUSED(3);
     switch (o->kind) {
     case PLAIN_OUT_REGISTER:
-        if (ERR(36, false, t->lun[o->lun].working))
+        if (t->lun[o->lun].working && ERR(36, false, true) && ERR(68, !resumed, true))
             return REFUSED(5);
         if (o->next >= t->page_size)
             return REFUSED(8);
@@ -669,8 +787,8 @@ static uint32_t protect(struct plain_target *t, uint8_t level)
     bool high = level == 1;
     if (level > 1)
         return REFUSED(12);
-    if ((any_works(t) || t->sequence.kind != PLAIN_SEQ_NONE)
-        && ERR(30, t->line_high != high, true))
+    bool open = t->sequence.kind != PLAIN_SEQ_NONE && ERR(69, !bare_00h(t), true);
+    if ((any_works(t) || open) && ERR(30, t->line_high != high, true))
         return REFUSED(11);
     t->line_high = high;
     return ACCEPTED;
@@ -690,17 +808,25 @@ static uint32_t bus_cycle(struct plain_target *t, const struct lent *b, uint8_t 
     }
 }
 
+static uint32_t bench_event(struct plain_target *t, uint8_t kind, uint8_t value)
+{
+    uint32_t reply = kind == 4 ? finish(t, value) : protect(t, value);
+    if (ERR(62, reply != ACCEPTED, ERR(76, reply == ACCEPTED, false)))
+        forget(t);
+    return reply;
+}
+
 static uint32_t step(struct plain_target *t, const struct lent *b, uint8_t kind, uint8_t value)
 {
     if (kind > 5 || (kind == 3 && value != 0)) {
         if (ERR(28, true, false))
             drop(t);
+        if (ERR(62, true, false))
+            forget(t);
         return REFUSED(12);
     }
-    if (kind == 4)
-        return finish(t, value);
-    if (kind == 5)
-        return protect(t, value);
+    if (kind == 4 || kind == 5)
+        return bench_event(t, kind, value);
     uint32_t reply = bus_cycle(t, b, kind, value);
     if (reply >= REFUSED(0))
         drop(t);
@@ -843,14 +969,15 @@ uint32_t plain_trace(struct plain_target *t, const uint8_t *records, size_t n,
 uint32_t plain_rest(const struct plain_target *t, size_t page_len, size_t registers_len,
                     size_t *start, size_t *length)
 {
-    const struct plain_output *o = &t->output;
+    bool behind = ERR(70, t->output.kind == PLAIN_OUT_STATUS, ERR(71, bare_00h(t), false));
+    const struct plain_output *o = behind ? &t->kept : &t->output;
 
     *start = 0;
     *length = 0;
     if (!record_usable(t) || page_len != PLAIN_PAGE_BYTES
         || registers_len != (uint64_t)t->luns * t->page_size)
         return 0;
-    if (t->sequence.kind != PLAIN_SEQ_NONE)
+    if (t->sequence.kind != PLAIN_SEQ_NONE && ERR(71, !bare_00h(t), true))
         return 0;
     if (o->kind == PLAIN_OUT_REGISTER && !t->lun[o->lun].working && o->next < t->page_size) {
         *start = (size_t)o->lun * t->page_size + o->next;

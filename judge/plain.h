@@ -1,5 +1,5 @@
-/* The plain model of the NAND target of document 01, with copyback (A1): one struct, one switch.
- * It is written from the documents alone, to judge the proved model by. */
+/* The plain model of the NAND target of document 01, with copyback (A1), polling loaders (A2) and page order (A4): one
+ * struct, one switch. It is written from the documents alone, to judge the proved model by. */
 #ifndef PLAIN_H
 #define PLAIN_H
 
@@ -53,6 +53,7 @@ struct plain_sequence {
     uint8_t given;              /* EFh: feature bytes so far */
     uint8_t p1;                 /* EFh: the first of them */
     uint8_t first;              /* move: its program's first command, 80h or 85h */
+    bool in_page;               /* 05h: told at its command that it moves within the parameter page */
     uint32_t column;            /* bytes so far; in a program the next place, up to P */
     uint32_t row;               /* bytes so far */
     uint32_t page;              /* 00h, 80h, 85h */
@@ -84,6 +85,7 @@ struct plain_target {
     struct plain_lun lun[PLAIN_MAX_LUNS];
     struct plain_sequence sequence;
     struct plain_output output;
+    struct plain_output kept;   /* behind a status: the output that 00h and data out go on with; never a status */
 };
 
 /* Power-on: 0, or the refusal 20 to 25, which leaves *t all zero. */

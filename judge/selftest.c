@@ -239,6 +239,52 @@ static void outputs(struct bench *b)
     run(b, "0300 0300", "0208 0203", "byte 769");
 }
 
+static void kept(struct bench *b, uint8_t kind, uint32_t lun, uint32_t next, const char *what)
+{
+    const struct plain_output *k = &b->t.kept;
+    check(k->kind == kind && k->lun == lun && k->next == next, what);
+}
+
+static void polling(struct bench *b)
+{
+    make_t1(b);
+    b->array[3] = 0x33;
+    run(b, "00FF 0000 0103 0100 0100 0100 0100 0030 0070", "0000 0000 0000 0000 0000 0000 0000 0000 0000", "read, 70h");
+    kept(b, PLAIN_OUT_REGISTER, 0, 3, "70h keeps the register");
+    run(b, "0300 0402 0700 0301 0502 0400 0300 0500 0501",
+        "0180 020A 020C 020C 020C 0000 01E0 0000 0000", "bench events");
+    kept(b, PLAIN_OUT_REGISTER, 0, 3, "they keep it");
+    rest(b, 0, 0, 0, "no rest behind a status");
+    run(b, "0078 011F 0100", "0000 0000 0000", "78h, two cycles");
+    kept(b, PLAIN_OUT_REGISTER, 0, 3, "78h's row has yet to decide");
+    run(b, "0100 0000", "0000 0000", "LUN 0's block 7, 00h");
+    kept(b, PLAIN_OUT_REGISTER, 0, 3, "the same LUN");
+    rest(b, 0, 0, 0, "no rest after a bare 00h");
+    run(b, "0501 0400 0300", "020B 020A 0133", "a sequence is open; then the byte");
+    kept(b, PLAIN_OUT_NONE, 0, 0, "plain output again");
+    rest(b, 1, 4, 524, "with its rest");
+    run(b, "0070 0000 0100", "0000 0000 0000", "00h with an address");
+    kept(b, PLAIN_OUT_NONE, 0, 0, "is a plain read");
+    run(b, "0300", "0203", "whose data out is 3");
+
+    run(b, "00EC 0100 0300 0078 0100 0100", "0000 0000 014F 0000 0000 0000", "the page, 78h");
+    kept(b, PLAIN_OUT_PARAMETERS, 0, 1, "until the row");
+    run(b, "0100", "0000", "the row");
+    kept(b, PLAIN_OUT_NONE, 0, 0, "which names no register");
+    run(b, "00EC 0100 0070", "0000 0000 0000", "the page, 70h");
+    kept(b, PLAIN_OUT_PARAMETERS, 0, 0, "70h keeps the page");
+    run(b, "0005 0100", "0000 0000", "05h");
+    kept(b, PLAIN_OUT_NONE, 0, 0, "a first command");
+    check(b->t.sequence.in_page, "within the page");
+    run(b, "0102 00E0", "0000 0000", "column 512");
+    rest(b, 2, 0, 256, "the third copy");
+    run(b, "00FF 0070 0005 0110 0102", "0000 0000 0000 0000 0204", "05h behind an empty status");
+    run(b, "0090 0120 0070 00FF", "0000 0000 0000 0000", "FFh");
+    kept(b, PLAIN_OUT_NONE, 0, 0, "loses it");
+    run(b, "00EE 0101 0300 0070 0010", "0000 0000 0100 0000 0203", "a refused cycle");
+    kept(b, PLAIN_OUT_NONE, 0, 0, "loses it too");
+}
+
 static void features(struct bench *b)
 {
     make_t1(b);
@@ -318,6 +364,33 @@ static void programs(struct bench *b)
     run(b, "00FF 0070 0300", "0000 0000 01E0", "FFh sets FAIL 0");
 }
 
+/* T1's page has feature bit 2 clear. */
+static void page_order(struct bench *b)
+{
+    make_t1(b);
+    b->counts[3] = 200;
+    b->array[2 * 528] = 0x5A;
+    run(b, "00FF 0080 0100 0100 0102 0100 0100 0200 0010 0070 0300 0400 0300",
+        "0000 0000 0000 0000 0000 0000 0000 0000 0000 0000 0180 0000 01E1", "page 2 below page 3, which was lent full");
+    check(b->array[2 * 528] == 0x5A && b->counts[2] == 0 && b->counts[3] == 200, "array and counts stay");
+    check(b->registers[0] == 0x00, "and the register");
+    b->counts[3] = 0;
+    b->counts[1] = 4;
+    b->counts[4] = b->counts[8] = b->counts[35] = 4;
+    run(b, "0080 0100 0100 0102 0100 0100 0200 0010 0400 0070 0300",
+        "0000 0000 0000 0000 0000 0000 0000 0000 0000 0000 01E0", "lower pages, other blocks, LUN 1's block 0");
+    check(b->array[2 * 528] == 0x00 && b->counts[2] == 1, "page 2 is programmed");
+    b->flags[0] = 1;
+    run(b, "0080 0100 0100 0102 0100 0100 0010 0400 0070 0300",
+        "0000 0000 0000 0000 0000 0000 0000 0000 0000 01E1", "a bad block fails in any order");
+
+    make_bench(b, 512, 16, 4, 8, 2, 4, ALL_FEATURES | 4, ALL_OPTIONS);
+    b->counts[3] = 4;
+    run(b, "00FF 0080 0100 0100 0100 0100 0100 0010 0400 0070 0300",
+        "0000 0000 0000 0000 0000 0000 0000 0000 0000 0000 01E0", "feature bit 2 set");
+    check(b->counts[0] == 1, "any order");
+}
+
 static uint32_t refused_with(struct bench *b, unsigned at, unsigned bytes, uint32_t n)
 {
     make_page(b->page, 512, 16, 4, 8, 2, 4, ALL_FEATURES, ALL_OPTIONS);
@@ -390,6 +463,43 @@ static void numbers(struct bench *b)
     usable(b, false, "a move in no program");
 }
 
+/* Rule 13 on what is kept, behind a status, and on 05h's mark. */
+static void kept_usable(struct bench *b, uint8_t kind, uint32_t lun, uint32_t next, bool good, const char *what)
+{
+    b->t.output = (struct plain_output){.kind = PLAIN_OUT_STATUS};
+    b->t.kept = (struct plain_output){.kind = kind, .lun = lun, .next = next};
+    usable(b, good, what);
+}
+
+static void kept_numbers(struct bench *b)
+{
+    make_t1(b);
+    run(b, "00FF", "0000", "FFh");
+    kept_usable(b, PLAIN_OUT_REGISTER, 1, 528, true, "LUN 1's register kept at P");
+    kept_usable(b, PLAIN_OUT_REGISTER, 1, 529, false, "past P");
+    kept_usable(b, PLAIN_OUT_REGISTER, 2, 0, false, "LUN 2's");
+    kept_usable(b, PLAIN_OUT_PARAMETERS, 0, 768, true, "the page at 768");
+    kept_usable(b, PLAIN_OUT_PARAMETERS, 0, 769, false, "at 769");
+    kept_usable(b, PLAIN_OUT_STATUS, 0, 0, false, "a status is not kept");
+    kept_usable(b, PLAIN_OUT_IDS, 0, 2, true, "IDs at 2");
+    kept_usable(b, PLAIN_OUT_IDS, 0, 3, false, "at 3");
+    kept_usable(b, PLAIN_OUT_SIGNATURE, 0, 4, true, "the signature at 4");
+    kept_usable(b, PLAIN_OUT_SIGNATURE, 0, 5, false, "at 5");
+    kept_usable(b, PLAIN_OUT_FEATURE, 0, 4, true, "feature bytes at 4");
+    kept_usable(b, PLAIN_OUT_FEATURE, 0, 5, false, "at 5");
+    kept_usable(b, PLAIN_OUT_FEATURE + 1, 0, 0, false, "no such output");
+
+    make_t1(b);
+    b->t.sequence = (struct plain_sequence){.kind = PLAIN_SEQ_COLUMN, .cycles = 2, .in_page = true, .column = 767};
+    usable(b, true, "05h within the page at 767");
+    b->t.sequence = (struct plain_sequence){.kind = PLAIN_SEQ_COLUMN, .cycles = 2, .in_page = true, .column = 768};
+    usable(b, false, "at 768");
+    b->t.sequence = (struct plain_sequence){.kind = PLAIN_SEQ_COLUMN, .cycles = 1, .in_page = true, .column = 256};
+    usable(b, false, "a half-given column of 256");
+    b->t.sequence = (struct plain_sequence){.kind = PLAIN_SEQ_COLUMN, .cycles = 2, .column = 528};
+    usable(b, false, "05h at P, and not within the page");
+}
+
 int main(void)
 {
     static struct bench b;
@@ -399,11 +509,14 @@ int main(void)
     records(&b);
     orders(&b);
     outputs(&b);
+    polling(&b);
     features(&b);
     rows(&b);
     programs(&b);
+    page_order(&b);
     power_ons(&b);
     numbers(&b);
+    kept_numbers(&b);
     printf("%u checks, %u wrong\n", checks, wrong);
     return wrong != 0;
 }

@@ -3,7 +3,8 @@
  * A file is a trace as nib's text, with its answers in the comments:
  *   # case TITLE          what follows is on a part of its own, just reset (c ff)
  *   # part NAME NUMBERS   that part is not quite W: features or optional WORD (hex), programs N, count or flag PLACE N
- *   EVENTS # ANSWERS      a line of the trace; for each event a dot (accepted), two hex digits (a byte) or rN (refused)
+ *   EVENTS # ANSWERS      a line of the trace; for each event a dot (accepted), two hex digits (a byte), xx (any byte)
+ *                         or rN (refused)
  * Other lines that begin with # are remarks. A file that breaks this form ends the program with 2. */
 #include "bench.h"
 
@@ -11,6 +12,7 @@
 #include <stdlib.h>
 
 enum { LINE = 256, MOST = 600 };        /* characters of a line, bytes of records or replies */
+enum { ANY = 9 };                       /* first byte of an answer: any byte will do */
 
 /* What a case may change of part W. */
 struct part {
@@ -115,18 +117,26 @@ static size_t read_answers(char *text, uint8_t *to)
             to[n] = to[n + 1] = 0;
         if (dots != 0)
             continue;
-        bool refused = w[0] == 'r';
-        to[n++] = refused ? 2 : 1;
-        to[n++] = (uint8_t)(refused ? number(w + 1, 10, 255) : number(w, 16, 0xFF));
+        bool refused = w[0] == 'r', any = strcmp(w, "xx") == 0;
+        to[n++] = any ? ANY : refused ? 2 : 1;
+        to[n++] = (uint8_t)(any ? 0 : refused ? number(w + 1, 10, 255) : number(w, 16, 0xFF));
     }
     return n;
+}
+
+static bool as_due(const uint8_t *want, const uint8_t *got, size_t n)
+{
+    bool same = true;
+    for (size_t i = 0; i < n; i += 2)
+        same = same && (want[i] == ANY ? got[i] == 1 : want[i] == got[i] && want[i + 1] == got[i + 1]);
+    return same;
 }
 
 static void print_replies(const char *what, const uint8_t *replies, size_t n)
 {
     printf("  %s", what);
     for (size_t i = 0; i < n; i += 2)
-        printf(replies[i] == 0 ? " ." : replies[i] == 1 ? " %02X" : " r%u", replies[i + 1]);
+        printf(replies[i] == ANY ? " xx" : replies[i] == 0 ? " ." : replies[i] == 1 ? " %02X" : " r%u", replies[i + 1]);
     printf("\n");
 }
 
@@ -139,7 +149,7 @@ static void run_line(struct bench *b, char *text)
     *answers++ = 0;
     size_t n = read_events(text, in), w = read_answers(answers, want);
     bool ran = run_records(b, in, n, got);
-    bool ok = ran && w == n && memcmp(got, want, n) == 0;
+    bool ok = ran && w == n && as_due(want, got, n);
 
     lines++;
     check(ok, "a worked sequence");

@@ -93,12 +93,12 @@ unsigned loader_wait(loader *l, size_t lun, int *done)
 }
 
 /* A page into its LUN's register, and output opened at the column. */
-static unsigned open_page(loader *l, size_t lun, size_t block, size_t column)
+static unsigned open_page(loader *l, size_t lun, size_t block, size_t page, size_t column)
 {
     uint8_t a[2] = {(uint8_t)column, (uint8_t)(column >> 8)};
     int done;
     TRY(command(l, READ));
-    TRY(place(l, lun, block, 0, column));
+    TRY(place(l, lun, block, page, column));
     TRY(command(l, START_READ));
     TRY(loader_wait(l, lun, &done));
     /* the polls ended the output: it is opened again, on the LUN that they named last */
@@ -107,20 +107,22 @@ static unsigned open_page(loader *l, size_t lun, size_t block, size_t column)
     return command(l, START_OUTPUT);
 }
 
-/* *good: the first page's first spare byte is not the maker's mark, 00h, and its data bytes are erased. */
+/* *good: the first page's first spare byte is not the maker's mark, 00h, and every page's data bytes are erased: many
+ * parts take a block's pages upward only, and fail a program below a written one. */
 static unsigned look(loader *l, size_t lun, size_t block, int *good)
 {
     uint8_t byte = 0xFF;
     if (l->spare_bytes > 0) {
-        TRY(open_page(l, lun, block, l->data_bytes));
+        TRY(open_page(l, lun, block, 0, l->data_bytes));
         TRY(l->bus.read(l->bus.of, &byte, 1));
     }
     *good = byte != 0x00;
-    if (*good)
-        TRY(open_page(l, lun, block, 0));
-    for (size_t i = 0; *good && i < l->data_bytes; i++) {
-        TRY(l->bus.read(l->bus.of, &byte, 1));
-        *good = byte == 0xFF;
+    for (size_t page = 0; *good && page < l->pages; page++) {
+        TRY(open_page(l, lun, block, page, 0));
+        for (size_t i = 0; *good && i < l->data_bytes; i++) {
+            TRY(l->bus.read(l->bus.of, &byte, 1));
+            *good = byte == 0xFF;
+        }
     }
     return LOADER_OK;
 }
@@ -140,7 +142,7 @@ static unsigned find(loader *l, size_t lun, size_t *block)
 static unsigned compare(loader *l, size_t lun, const loader_preset *p)
 {
     uint8_t byte;
-    TRY(open_page(l, lun, p->block, 0));
+    TRY(open_page(l, lun, p->block, 0, 0));
     for (size_t i = 0; i < p->length; i++) {
         TRY(l->bus.read(l->bus.of, &byte, 1));
         if (byte != p->bytes[i])
@@ -174,7 +176,7 @@ unsigned loader_save(loader *l, loader_preset *presets, size_t luns)
         for (size_t lun = 0; lun < luns; lun++)
             if (left[lun]) {
                 TRY(loader_wait(l, lun, &done));
-                /* a program that failed has spoilt its block: the preset goes to the next one */
+                /* a program that failed may have spoilt its block: the preset goes to the next one */
                 left[lun] = !done;
                 presets[lun].block += !done;
                 some |= !done;

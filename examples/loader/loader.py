@@ -104,7 +104,9 @@ class Loader:
         return self.spare_bytes > 0 and self.read(lun, block, 0, self.data_bytes, 1) == b"\0"
 
     def is_free(self, lun: int, block: int) -> bool:
-        return self.read(lun, block, 0, 0, self.data_bytes) == b"\xFF" * self.data_bytes
+        """No page of it is written: many parts take a block's pages upward only, and fail a program below one."""
+        erased = b"\xFF" * self.data_bytes
+        return all(self.read(lun, block, page, 0, self.data_bytes) == erased for page in range(self.pages))
 
     def free_blocks(self, lun: int) -> Iterator[int]:
         return (block for block in range(self.blocks) if not self.is_bad(lun, block) and self.is_free(lun, block))
@@ -129,7 +131,7 @@ class Loader:
             for lun, block in places.items():
                 self.start_program(lun, block, 0, left[lun])
             for lun, block in places.items():
-                # a program that failed has spoilt its block: the preset goes to the next one
+                # a program that failed may have spoilt its block: the preset goes to the next one
                 if self.wait(lun):
                     del left[lun]
                     saved[lun] = block

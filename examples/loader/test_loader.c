@@ -70,6 +70,15 @@ int main(void)
     CHECK(loader_save(&l, both, 2) == LOADER_OK && both[0].block == 2 && both[1].block == 1);
     CHECK(held(0, 0)[0] == 0xFF && memcmp(held(0, 2), A, sizeof A) == 0);
 
+    /* T1 takes a block's pages upward only: a block with a higher page written is not free; and where such a page reads
+     * FFh still, the program fails and the preset goes to another block */
+    CHECK(fresh("................", 1, 1) == LOADER_OK);
+    array[nib_page_start(nib_part_of(page), 0, 0, 3)] = 'x';
+    counts[3] = counts[32 + 2] = 1;
+    CHECK(loader_save(&l, both, 2) == LOADER_OK && both[0].block == 1 && both[1].block == 1);
+    CHECK(counts[0] == 0 && counts[4] == 1 && counts[32] == 0 && counts[36] == 1);
+    CHECK(held(1, 0)[0] == 0xFF && memcmp(held(1, 1), B, sizeof B) == 0);
+
     /* a LUN that is left alone */
     CHECK(fresh("................", 1, 1) == LOADER_OK);
     CHECK(loader_save(&l, second, 2) == LOADER_OK && held(0, 0)[0] == 0xFF && held(1, 0)[0] == 's');

@@ -86,6 +86,20 @@ def test_a_failed_program_goes_to_another_block(part: Part) -> None:
     assert held(bench, 0, 0, 1) == b"\xFF" and held(bench, 0, 2, len(A)) == A
 
 
+def test_page_order(part: Part) -> None:
+    # T1 takes a block's pages upward only: a block with a higher page written is no place for a preset
+    bench = part("T1", autofinish=1)
+    loader = Loader(bench)
+    bench.program(0, 0, 3, b"x")
+    bench.program(1, 0, 1, b"x")
+    assert loader.save({0: A, 1: B}) == {0: 1, 1: 1}
+    assert bytes(bench.counts[0:8]) == bytes([0, 0, 0, 1, 1, 0, 0, 0])
+    # page 2 of LUN 0's block 2 was programmed and reads FFh still: the program fails there, and goes to the next
+    bench.program(0, 2, 2)
+    assert loader.save({0: A, 1: B}) == {0: 3, 1: 2}
+    assert held(bench, 0, 2, 1) == b"\xFF" and held(bench, 0, 3, len(A)) == A
+
+
 def test_a_part_with_no_free_block(part: Part) -> None:
     bench = part("T1", bad=[(1, block) for block in range(8)], marks=True, autofinish=1)
     with pytest.raises(LoaderError, match="LUN 1 has no free block"):

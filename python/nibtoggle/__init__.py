@@ -17,11 +17,11 @@ from .jobs import Job
 from .pages import PAGE_RULES, BrokenRule, NoGoodCopy, PageCheck, WrongLength, check_page
 from .part import Part, crc, parameter_page
 from .parts import PARTS, KnownPart
-from .replies import RULES, Refused, Replies, Reply, Status
+from .replies import RULES, NotReady, Refused, Replies, Reply, Status
 from .text import BadWord, records_of, text_of
 
 #: As VERSION has it; tools/version sets it everywhere.
-__version__ = "0.3.0"
+__version__ = "0.4.0"
 
 __all__ = [
     "BadWord",
@@ -33,6 +33,7 @@ __all__ = [
     "Library",
     "LibraryNotFound",
     "NoGoodCopy",
+    "NotReady",
     "PAGE_RULES",
     "PARTS",
     "PageCheck",

@@ -20,7 +20,8 @@ class Target(ctypes.Structure):
         for name in ("data_bytes", "spare_bytes", "features", "optional_commands")
     ] + [
         (name, _size)
-        for name in ("pages", "blocks", "luns", "programs", "selected", "column", "row", "output_lun", "output_at")
+        for name in ("pages", "blocks", "luns", "programs", "selected", "column", "row", "output_lun", "output_at",
+                     "kept_lun", "kept_at")
     ] + [
         (name, _byte)
         for name in ("powered", "high", "clear", "seen")
@@ -32,6 +33,7 @@ class Target(ctypes.Structure):
         for name in ("maker", "device", "sequence", "first", "got", "low", "mid", "value", "output")
     ] + [
         ("copyback", _byte * 4),
+        ("kept", _byte),
     ]
 
 

@@ -8,17 +8,17 @@ import tempfile
 import warnings
 from pathlib import Path
 from types import TracebackType
-from typing import Iterable, List, NamedTuple, Optional, Tuple, Type, Union
+from typing import Callable, Iterable, List, NamedTuple, Optional, Tuple, Type, Union
 
 from . import checks, folder, jobs, parts
 from ._library import Library, Target
 from .folder import LARGE, Buffer
-from .part import PAGE_LENGTH, Part, fields_outside, parameter_page
-from .replies import ADDRESS, COMMAND, DATA_IN, DATA_OUT, FINISH, PROTECT, Refused, Replies, Reply, Status
+from .part import OPTIONAL_STATUS_78H, PAGE_LENGTH, Part, fields_outside, parameter_page
+from .replies import ADDRESS, COMMAND, DATA_IN, DATA_OUT, FINISH, PROTECT, NotReady, Refused, Replies, Reply, Status
 
 Store = Union[None, Buffer, str, "os.PathLike[str]"]
-#: enum nib_output of the header: a LUN's status comes out.
-_STATUS_OUTPUT = 3
+#: enum nib_output of the header: a page register, the parameter page, a status, IDs, the signature, feature bytes.
+_REGISTER_OUTPUT, _PAGE_OUTPUT, _STATUS_OUTPUT, _ID_OUTPUT, _SIGNATURE_OUTPUT, _FEATURE_OUTPUT = range(1, 7)
 
 
 class UnwrittenZeros(UserWarning):
@@ -341,7 +341,12 @@ class Bench:
 
     def program(self, lun: Optional[int] = None, block: Optional[int] = None, page: Optional[int] = None, data: bytes = b"", column: int = 0,
                 *, row: Optional[int] = None, finish: bool = True) -> Replies:
-        """80h, five addresses, data in, 10h; then the LUN's finish, unless it is left working. A failed program is accepted: ask `status`."""
+        """80h, five addresses, data in, 10h; then the LUN's finish, unless it is left working.
+
+        A failed program is accepted: ask `status`. It fails, and leaves the page and its count as they are, on a bad
+        block, on a page that was programmed as often as it may be, and out of page order: a higher page of the block is
+        programmed, and the part does not offer any order (feature bit 2; `parameter_page(any_order=True)`).
+        """
         row = checks.row(self.part, lun, block, page, row)
         return self._job(self._records_of("program", row, column, data=checks.data(data)), row, finish)
 
@@ -360,7 +365,8 @@ class Bench:
     def copyback_program(self, lun: Optional[int] = None, block: Optional[int] = None, page: Optional[int] = None, data: bytes = b"",
                          column: int = 0, *, row: Optional[int] = None, finish: bool = True) -> Replies:
         """85h, five addresses, data in, 10h: what the LUN's register holds is programmed, with the data over it from the column on; then
-        the LUN's finish, unless it is left working. A failed program is accepted: ask `status`."""
+        the LUN's finish, unless it is left working. A failed program is accepted: ask `status`. It fails where `program`
+        does, out of page order too."""
         row = checks.row(self.part, lun, block, page, row)
         return self._job(_command(0x85) + self._records_of("program", row, column, data=bytes(data))[2:], row, finish)
 
@@ -389,6 +395,69 @@ class Bench:
             ask = self._records_of("status", self._lun_row(lun, row), count=1)
         data = self._run(ask).data
         return Status(data[0]) if data else None
+
+    def poll(self, lun: Optional[int] = None, polls: int = 1000, *,
+             finish: Optional[Callable[[int], object]] = None) -> Optional[Status]:
+        """Asks for the status until the LUN is ready, as a loader does: the last status byte. After `polls` statuses
+        that say it works, NotReady is raised, or not strict that status is returned; None where refused and not strict.
+
+        With no LUN it is 70h, which asks the selected one. With a LUN it is 78h; a part that has no 78h can be asked
+        for the selected LUN alone, by 70h, and another LUN is then a ValueError.
+
+        `finish` is called after each status that says the LUN works, with the number of polls so far; if it answers
+        true the LUN is let finish, where it works still. So `finish=lambda n: n == 3` gives the finish after three
+        polls. `autofinish` goes on as ever. What was open before is kept, as the part keeps it: `resume` goes on from
+        there.
+        """
+        polls = checks.number("number of polls", polls, 1, 1 << 40)
+        ask = self._status_of(lun)
+        raw, records = bytearray(), bytearray()
+
+        def sent(events: bytes) -> Replies:
+            try:
+                return self._run(events)
+            finally:
+                raw.extend(self.replies.raw)
+                records.extend(self.replies.records)
+
+        polled, status = 0, Status(0)
+        try:
+            for n in range(1, polls + 1):
+                replies = sent(ask)
+                if not replies.ok:
+                    return None
+                polled, status = int(self._target.output_lun), Status(replies.data[0])
+                if status.ready:
+                    return status
+                if finish is not None and finish(n) and self.working(polled):
+                    sent(bytes((FINISH, polled)))
+        finally:
+            self.replies = Replies(bytes(raw), bytes(records))
+        if self.strict:
+            raise NotReady(polled, polls, status)
+        return status
+
+    def _status_of(self, lun: Optional[int]) -> bytes:
+        """A status and its byte: 70h, or 78h of the LUN where the part has that."""
+        if lun is not None:
+            row = self._lun_row(lun, None)
+            if self._target.optional_commands & OPTIONAL_STATUS_78H:
+                return self._records_of("status", row, count=1)
+            if lun != self._target.selected:
+                raise ValueError("the part has no 78h, and 70h asks LUN %d, which is selected" % self._target.selected)
+        return _command(0x70) + _outs(1)
+
+    def resume(self, count: Optional[int] = None) -> bytes:
+        """After a status: 00h with no address and data out, which go on from the output that was open before, at its
+        next byte. `count` bytes, at least 1, or all that are left. Not strict, it ends before the first that is
+        refused: 3 where nothing is kept, 5 while the LUN works, 8 at the end.
+        """
+        # a bare 00h is an open sequence, so it is never sent without a data out
+        ends = {_REGISTER_OUTPUT: self.part.page_size, _PAGE_OUTPUT: 3 * PAGE_LENGTH, _ID_OUTPUT: 2,
+                _SIGNATURE_OUTPUT: 4, _FEATURE_OUTPUT: 4}
+        left = ends.get(int(self._target.kept), 0) - int(self._target.kept_at)
+        n = max(1, left) if count is None else checks.number("number of data outs", count, 1, 1 << 40)
+        return self._run(_command(0x00) + _outs(n)).data
 
     def read_id(self) -> bytes:
         """90h with 00h: maker ID and device ID."""

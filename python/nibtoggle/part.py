@@ -9,7 +9,7 @@ from . import checks
 #: A parameter page's length.
 PAGE_LENGTH = 256
 #: Bits of the feature word (bytes 6 and 7) that the model knows.
-FEATURE_MORE_LUNS, FEATURE_PROGRAM_CLEAR = 1 << 1, 1 << 8
+FEATURE_MORE_LUNS, FEATURE_ANY_ORDER, FEATURE_PROGRAM_CLEAR = 1 << 1, 1 << 2, 1 << 8
 #: Bits of the optional-command word (bytes 8 and 9).
 OPTIONAL_FEATURES, OPTIONAL_STATUS_78H, OPTIONAL_COPYBACK, OPTIONAL_COLUMN_06H = 1 << 2, 1 << 3, 1 << 4, 1 << 6
 
@@ -137,8 +137,12 @@ def crc(message: bytes) -> int:
 
 def parameter_page(data: int = 512, spare: int = 16, pages: int = 4, blocks: int = 8, luns: int = 2, programs: int = 4, *,
                    maker: int = 0x2C, program_clear: bool = True, features: bool = True, status_78h: bool = True,
-                   column_06h: bool = True, copyback: bool = False, more_features: int = 0, more_options: int = 0) -> bytes:
+                   column_06h: bool = True, copyback: bool = False, any_order: bool = False, more_features: int = 0,
+                   more_options: int = 0) -> bytes:
     """256 parameter bytes of a part, with their CRC. What is not given is as in the worked part T1.
+
+    With `any_order` (feature bit 2) a block's pages may be programmed in any order. Without it, as on T1, a program for
+    a page below one of its block that is programmed does not proceed, and gives FAIL.
 
     `more_features` and `more_options` are bits of the feature and the optional-command word beside those that have a name here.
     Numbers outside the model's limits are written as they are, for power-on to refuse; those that their field can't hold raise ValueError.
@@ -150,7 +154,8 @@ def parameter_page(data: int = 512, spare: int = 16, pages: int = 4, blocks: int
     checks.number("more options", more_options, 0, 0xFFFF)
     page = bytearray(PAGE_LENGTH)
     page[0:4] = b"ONFI"
-    page[6:8] = (FEATURE_MORE_LUNS * (luns > 1) | FEATURE_PROGRAM_CLEAR * program_clear | more_features).to_bytes(2, "little")
+    page[6:8] = (FEATURE_MORE_LUNS * (luns > 1) | FEATURE_ANY_ORDER * any_order | FEATURE_PROGRAM_CLEAR * program_clear
+                  | more_features).to_bytes(2, "little")
     page[8:10] = (OPTIONAL_FEATURES * features | OPTIONAL_STATUS_78H * status_78h | OPTIONAL_COPYBACK * copyback
                   | OPTIONAL_COLUMN_06H * column_06h | more_options).to_bytes(2, "little")
     page[64] = maker

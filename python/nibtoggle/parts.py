@@ -39,15 +39,14 @@ def _maker_s(name: str, device_id: int, luns: int, pads: int, strength: int) -> 
     return KnownPart(name, bytes(page), device_id)
 
 
-#: Bits of the two words that only W sets, and the model does not look at: pages of a block programmed in any order, and operations on
-#: several planes; cache programming.
-_ANY_ORDER, _PLANES, _CACHE = 1 << 2, 1 << 3, 1 << 0
+#: Bits of the two words that only W sets, and the model does not look at: several planes; cache programming.
+_PLANES, _CACHE = 1 << 3, 1 << 0
 
 #: Every part that has a name, in the order of `parts`.
 PARTS: Dict[str, KnownPart] = {known.name: known for known in (
     KnownPart("T1", parameter_page(), 0x68),
     KnownPart("T2", parameter_page(pages=3, blocks=5), 0x68),
-    KnownPart("W", parameter_page(copyback=True, more_features=_ANY_ORDER | _PLANES, more_options=_CACHE), 0x68),
+    KnownPart("W", parameter_page(copyback=True, any_order=True, more_features=_PLANES, more_options=_CACHE), 0x68),
     _maker_s("MT29F32G08ABAAAWP", 0x68, 1, 0x06, 0x0A),
     _maker_s("MT29F64G08AFAAAWP", 0x68, 1, 0x05, 0x07),
     _maker_s("MT29F128G08AJAAAWP", 0x88, 2, 0x09, 0x09),

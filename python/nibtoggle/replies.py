@@ -183,6 +183,19 @@ class Refused(Exception):
         return type(self), (self.number, self.event, self.index, self.replies, self.detail)
 
 
+class NotReady(Exception):
+    """A LUN was polled, and still works: `lun`, how many `polls` there were, and the last `status`."""
+
+    def __init__(self, lun: int, polls: int, status: "Status") -> None:
+        self.lun = lun
+        self.polls = polls
+        self.status = status
+        super().__init__("LUN %d is not ready after %d poll%s" % (lun, polls, "" if polls == 1 else "s"))
+
+    def __reduce__(self) -> Tuple[Type["NotReady"], Tuple[object, ...]]:
+        return type(self), (self.lun, self.polls, self.status)
+
+
 class Status(int):
     """A status byte, as 70h and 78h give it."""
 
@@ -193,7 +206,8 @@ class Status(int):
 
     @property
     def fail(self) -> bool:
-        """The last program or erase failed (bit 0, told when ready)."""
+        """The last program or erase failed (bit 0, told when ready): on a bad block; a program also on a full page, or
+        out of page order."""
         return self & 0x01 != 0
 
     @property

@@ -3,20 +3,24 @@ from __future__ import annotations
 
 import ctypes
 import os
+import pickle
 import re
 import sys
 import tempfile
 import unittest
 from pathlib import Path
+from typing import Callable
 
 ROOT = Path(__file__).resolve().parent.parent.parent
 sys.path.insert(0, str(ROOT / "python"))
 
-from nibtoggle import (PARTS, RULES, Bench, Part, Refused, Replies, Reply, Status, UnwrittenZeros, crc,  # noqa: E402
-                       parameter_page)
+from nibtoggle import (PARTS, RULES, Bench, NotReady, Part, Refused, Replies, Reply, Status,  # noqa: E402
+                       UnwrittenZeros, crc, parameter_page, records_of)
 from nibtoggle._library import Target  # noqa: E402
 
 HEADER = (ROOT / "include" / "nibtoggle.h").read_text(encoding="utf-8")
+#: The record's bytes; what follows is padding.
+USED = Target.kept.offset + Target.kept.size
 
 
 class Layout(unittest.TestCase):
@@ -147,8 +151,7 @@ class Events(unittest.TestCase):
         self.assertEqual(list(one), two)
         self.assertEqual(bytes(self.bench.array), bytes(other.array))
         self.assertEqual(bytes(self.bench.registers), bytes(other.registers))
-        used = Target.output.offset + Target.output.size     # what follows is padding
-        self.assertEqual(bytes(self.bench.target)[:used], bytes(other.target)[:used])
+        self.assertEqual(bytes(self.bench.target)[:USED], bytes(other.target)[:USED])
         self.assertEqual(one.data, b"\x11\x22\xFF\xFF\xE0")
         self.assertEqual(self.bench.events([(0, 0xFF), (5, 2)]).raw, b"\x00\x00\x02\x0C")
 
@@ -169,11 +172,11 @@ class Events(unittest.TestCase):
     def test_a_damaged_record_is_13(self) -> None:
         self.bench.reset()
         self.bench.target.sequence = 200
-        before = bytes(self.bench.target)[:105]
+        before = bytes(self.bench.target)[:USED]
         with self.assertRaises(Refused) as caught:
             self.bench.command(0xFF)
         self.assertEqual(caught.exception.number, 13)
-        self.assertEqual(bytes(self.bench.target)[:105], before)
+        self.assertEqual(bytes(self.bench.target)[:USED], before)
 
 
 class Jobs(unittest.TestCase):
@@ -214,6 +217,35 @@ class Jobs(unittest.TestCase):
         self.assertTrue(bench.working(1))
         bench.finish(1)
         self.assertEqual(bytes(bench.page_of(1, 6, 0)), bytes(bench.page_of(1, 0, 0)))
+
+    def test_page_order(self) -> None:
+        # T1 has feature bit 2 clear: a block's pages go upward, and a program below a written one fails
+        bench = self.bench
+        for lun, block, page, failed in ((1, 5, 1, False), (1, 5, 3, False), (1, 5, 1, True), (1, 5, 2, True),
+                                         (1, 5, 3, False), (1, 4, 0, False), (0, 5, 0, False)):
+            before = bytes(bench.array), bytes(bench.counts)
+            self.assertTrue(bench.program(lun, block, page, b"\0").ok)
+            status = bench.status(lun)
+            assert status is not None
+            self.assertEqual(status.fail, failed, (lun, block, page))
+            self.assertEqual((bytes(bench.array), bytes(bench.counts)) == before, failed)
+        bench.erase(1, 5)
+        bench.program(1, 5, 0, b"\0")
+        self.assertEqual((bench.status(1), bench.page_of(1, 5, 0)[0]), (0xE0, 0))
+
+    def test_page_order_is_of_the_part(self) -> None:
+        for any_order in (False, True):
+            bench = Bench(parameter_page(copyback=True, any_order=any_order), 0x68, counts=bytes([0, 0, 0, 1]) + bytes(60))
+            bench.reset()
+            self.assertEqual(bool(bench.target.features & 4), any_order)
+            due = 0xE0 if any_order else 0xE1
+            bench.program(0, 0, 2, b"\0")                   # page 3 was lent with a count
+            byte = 0 if any_order else 0xFF
+            self.assertEqual((bench.status(0), bench.page_of(0, 0, 2)[0], bench.counts[2]), (due, byte, any_order))
+            bench.program(0, 1, 1, b"\0")
+            bench.copyback_read(0, 1, 1)
+            bench.copyback_program(0, 1, 0)
+            self.assertEqual((bench.status(0), bench.page_of(0, 1, 0)[0], bench.counts[4]), (due, byte, any_order))
 
     def test_copyback_is_an_option(self) -> None:
         self.bench.strict = False
@@ -272,6 +304,151 @@ class Jobs(unittest.TestCase):
         self.bench.program(1, 0, 0, b"abc")
         self.assertEqual(self.bench.register(1)[:3], b"abc")
         self.assertEqual(self.bench.register(0)[:3], b"\xFF" * 3)
+
+
+class Polling(unittest.TestCase):
+    """Loaders that poll: the status until it says ready, then 00h, and on with what was open before."""
+
+    def setUp(self) -> None:
+        self.bench = Bench.t1()
+        self.bench.reset()
+        self.bench.program(1, 5, 3, b"preset")
+
+    def test_poll_and_resume(self) -> None:
+        self.bench.load(1, 5, 3, column=1)
+        calls = []
+        status = self.bench.poll(finish=lambda n: calls.append(n) or n == 3)
+        self.assertEqual((status, calls), (0xE0, [1, 2, 3]))
+        self.assertIsInstance(status, Status)
+        # four statuses by 70h, and the finish after the third, are the replies of the call
+        self.assertEqual(self.bench.replies.records, records_of("c 70 o 1 c 70 o 1 c 70 o 1 f 1 c 70 o 1"))
+        self.assertEqual(self.bench.replies.data, b"\x80\x80\x80\xE0")
+        self.assertEqual(self.bench.resume(3), b"res")
+        self.assertEqual(self.bench.replies.records, records_of("c 00 o 3"))
+        self.assertEqual(self.bench.read(2), b"et")             # plain output again
+        self.assertEqual(self.bench.poll(), 0xE0)
+        self.assertEqual(len(self.bench.resume()), 528 - 6)     # all that is left
+        self.bench.poll()
+        with self.assertRaises(Refused) as caught:
+            self.bench.resume()
+        self.assertEqual((caught.exception.number, caught.exception.event), (8, (3, 0)))
+
+    def test_a_function_that_gives_the_finish_itself(self) -> None:
+        self.bench.load(1, 5, 3)
+        self.assertEqual(self.bench.poll(1, finish=lambda n: self.bench.finish(1) if n == 2 else None), 0xE0)
+        self.assertEqual(self.bench.resume(6), b"preset")
+
+    def test_autofinish_goes_on_as_ever(self) -> None:
+        for polls in (1, 4):
+            self.bench.autofinish = polls
+            self.bench.load(1, 5, 3)
+            self.assertEqual(self.bench.poll(), 0xE0)
+            self.assertEqual(len(self.bench.replies.data), polls + 1)
+            self.assertEqual(self.bench.resume(6), b"preset")
+        # with both, the first of them finishes it, and the other does nothing
+        self.bench.load(1, 5, 3)
+        self.assertEqual(self.bench.poll(1, finish=lambda n: n >= 4), 0xE0)
+        self.bench.load(1, 5, 3)
+        self.assertEqual(self.bench.poll(1, finish=lambda n: n == 2), 0xE0)
+        self.assertEqual(self.bench.replies.data, b"\x80\x80\xE0")
+
+    def test_polls_that_run_out(self) -> None:
+        self.bench.program(1, 4, 2, b"x", finish=False)
+        with self.assertRaisesRegex(NotReady, "LUN 1 is not ready after 7 polls") as caught:
+            self.bench.poll(1, 7)
+        self.assertEqual((caught.exception.lun, caught.exception.polls, caught.exception.status), (1, 7, 0x80))
+        self.assertEqual(len(self.bench.replies.data), 7)
+        again = pickle.loads(pickle.dumps(caught.exception))
+        self.assertEqual((str(again), again.lun, again.polls, again.status), (str(caught.exception), 1, 7, 0x80))
+        with self.assertRaisesRegex(NotReady, "after 1 poll$"):
+            self.bench.poll(polls=1)
+        self.bench.strict = False
+        self.assertEqual(self.bench.poll(1, 2), 0x80)
+        self.assertEqual(self.bench.poll(1, 2, finish=lambda n: n == 2), 0x80)      # ready, and not asked again
+        self.assertEqual(self.bench.poll(1, 1), 0xE0)
+
+    def test_a_failed_program_is_ready(self) -> None:
+        bench = Bench.t1(bad=[(0, 3)], autofinish=2)
+        bench.reset()
+        bench.program(0, 3, 0, b"x", finish=False)
+        status = bench.poll(0)
+        assert status is not None
+        self.assertEqual((status.ready, status.fail), (True, True))
+
+    def test_70h_or_78h(self) -> None:
+        self.bench.poll()
+        self.assertEqual(self.bench.replies.records, records_of("c 70 o 1"))
+        self.bench.poll(1)
+        self.assertEqual(self.bench.replies.records, records_of("c 78 a 20 00 00 o 1"))
+        # 70h is refused while a LUN that is not selected works; 78h is not
+        self.bench.program(0, 0, 0, b"x", finish=False)
+        self.bench.load(1, 5, 3)
+        with self.assertRaises(Refused) as caught:
+            self.bench.poll()
+        self.assertEqual(caught.exception.number, 6)
+        self.bench.strict = False
+        self.assertIsNone(self.bench.poll())
+        self.assertEqual(self.bench.replies.refusals, [(0, 6), (1, 3)])
+        # a part without 78h: 70h for the LUN that is selected, and for no other
+        plain = Bench(parameter_page(status_78h=False), 0x68, autofinish=1)
+        plain.reset()
+        plain.program(1, 0, 0, b"x", finish=False)
+        self.assertEqual(plain.poll(1), 0xE0)
+        self.assertEqual(plain.replies.records, records_of("c 70 o 1 c 70 o 1"))
+        with self.assertRaisesRegex(ValueError, "no 78h, and 70h asks LUN 1"):
+            plain.poll(0)
+
+    def test_what_is_kept_and_what_is_lost(self) -> None:
+        # 78h keeps a register of its own LUN alone
+        self.bench.load(1, 5, 3, finish=True)
+        self.assertEqual((self.bench.poll(1), self.bench.resume(1)), (0xE0, b"p"))
+        self.assertEqual((self.bench.poll(0), self.bench.target.kept), (0xE0, 0))
+        self.refused(3, lambda: self.bench.resume(1))
+        # IDs, the signature and feature bytes behind 70h
+        self.bench.command(0x90)
+        self.bench.address(0x20)
+        self.assertEqual((self.bench.read(1), self.bench.poll(), self.bench.resume()), (b"O", 0xE0, b"NFI"))
+        self.bench.command(0x90)
+        self.bench.address(0x00)
+        self.assertEqual((self.bench.poll(), self.bench.resume()), (0xE0, b"\x2C\x68"))
+        self.bench.program_clear(True)
+        self.bench.command(0xEE)
+        self.bench.address(0x01)
+        self.assertEqual((self.bench.poll(), self.bench.resume()), (0xE0, b"\x40\0\0\0"))
+        # without a status it is lost, and so it is by a refused cycle
+        self.refused(3, lambda: self.bench.resume(1))
+        self.bench.load(1, 5, 3, finish=True)
+        self.bench.poll()
+        self.refused(3, lambda: self.bench.command(0x10))
+        self.bench.poll()
+        self.refused(3, lambda: self.bench.resume(1))
+        # too early
+        self.bench.load(1, 5, 3)
+        self.bench.strict = False
+        self.bench.poll(polls=1)
+        self.assertEqual(self.bench.resume(2), b"")
+        self.assertEqual(self.bench.replies.refusals, [(1, 5), (2, 3)])
+
+    def test_the_parameter_page(self) -> None:
+        page = parameter_page()
+        self.bench.command(0xEC)
+        self.bench.address(0x00)
+        self.assertEqual((self.bench.poll(), self.bench.resume()), (0xE0, 3 * page))
+        # 05h moves within the page's 768 bytes, open or kept
+        for column in (0, 64, 576, 767):
+            self.bench.poll()
+            self.bench.command(0x05)
+            self.bench.address(column & 0xFF, column >> 8)
+            self.bench.command(0xE0)
+            self.assertEqual(self.bench.read(1), page[column % 256:column % 256 + 1])
+        self.bench.command(0x05)
+        self.bench.address(0x00)
+        self.refused(4, lambda: self.bench.address(0x03))
+
+    def refused(self, number: int, call: Callable[[], object]) -> None:
+        with self.assertRaises(Refused) as caught:
+            call()
+        self.assertEqual(caught.exception.number, number)
 
 
 class PowerOn(unittest.TestCase):
@@ -354,12 +531,22 @@ class Files(unittest.TestCase):
 
 
 class Example(unittest.TestCase):
-    def test_the_example_runs(self) -> None:
+    def said(self, name: str) -> str:
         import subprocess
-        done = subprocess.run([sys.executable, str(ROOT / "examples" / "lost_preset.py")], capture_output=True, text=True)
+        done = subprocess.run([sys.executable, str(ROOT / "examples" / name)], capture_output=True, text=True)
         self.assertEqual(done.returncode, 0, done.stderr)
-        self.assertIn("A reads FF FF", done.stdout)
-        self.assertIn("A reads 3C A5", done.stdout)
+        return done.stdout
+
+    def test_the_lost_preset(self) -> None:
+        said = self.said("lost_preset.py")
+        self.assertIn("A reads FF FF", said)
+        self.assertIn("A reads 3C A5", said)
+
+    def test_polling(self) -> None:
+        said = self.said("polling.py")
+        self.assertIn("LUN 1, block 5, page 3, after 4 polls: sonar preset", said)
+        self.assertIn("parameter page, copy 2: ONFI", said)
+        self.assertIn("Status(E0h: ready), and on: preset", said)
 
 
 if __name__ == "__main__":

@@ -55,7 +55,7 @@ class Numbers(unittest.TestCase):
             self.sends_nothing(call)
         for lun in (2, 255, 256, -1):
             for call in (lambda: b.finish(lun), lambda: b.status(lun), lambda: b.read_out(lun), lambda: b.register(lun),
-                         lambda: b.working(lun), lambda: b.copyback_open(lun)):
+                         lambda: b.working(lun), lambda: b.copyback_open(lun), lambda: b.poll(lun)):
                 with self.subTest(lun=lun):
                     self.sends_nothing(call)
 
@@ -66,7 +66,8 @@ class Numbers(unittest.TestCase):
                      lambda: b.read_out(0, 65536), lambda: b.event(0, 0x1FF), lambda: b.event(256, 0), lambda: b.event(-1, 0),
                      lambda: b.events([(0, 0x1FF)]), lambda: b.command(0x1FF), lambda: b.address(0, 256), lambda: b.read(-1),
                      lambda: b.read_page(0, 0, 0, count=-1), lambda: b.parameters(4), lambda: b.get_feature(256),
-                     lambda: b.set_feature(b"\x40"), lambda: b.set_feature(bytes(5))):
+                     lambda: b.set_feature(b"\x40"), lambda: b.set_feature(bytes(5)),
+                     lambda: b.poll(polls=0), lambda: b.poll(0, -1), lambda: b.resume(0), lambda: b.resume(-1)):
             self.sends_nothing(call)
         self.sends_nothing(lambda: b.program(0, 0, 1.5, b"x"), TypeError)      # type: ignore[arg-type]
         self.sends_nothing(lambda: b.program(0, 0), TypeError)
@@ -79,8 +80,8 @@ class Numbers(unittest.TestCase):
             self.sends_nothing(call, TypeError)
         for call in (lambda: b.protect(2), lambda: b.protect(-1), lambda: b.program_clear(64)):
             self.sends_nothing(call)
-        b.program(0, 0, 0, [0x3C, 0xA5])                                                                      # type: ignore[arg-type]
-        self.assertEqual(bytes(b.page_of(0, 0, 0)[:2]), b"\x3C\xA5")
+        b.program(0, 1, 0, [0x3C, 0xA5])                                                                      # type: ignore[arg-type]
+        self.assertEqual(bytes(b.page_of(0, 1, 0)[:2]), b"\x3C\xA5")
         self.assertTrue(b.protect(True).ok and b.protect(0).ok)
 
     def test_the_message_names_the_number_and_its_range(self) -> None:

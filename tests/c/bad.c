@@ -32,7 +32,7 @@
 #endif
 
 /* The record without the padding at its end, which says nothing. */
-enum { USED = offsetof(nib_target, copyback) + 4, /* its sizes and words come first, then its size_t numbers, then its bytes */
+enum { USED = offsetof(nib_target, kept) + 1, /* sizes and words come first, then its size_t numbers, then its bytes */
        WORDS = offsetof(nib_target, pages) / sizeof(uint16_t),
        NUMBERS = (offsetof(nib_target, powered) - offsetof(nib_target, pages)) / sizeof(size_t), SPARE = 80, GUARD = 0x5A, LONGEST = 4000 };
 
@@ -49,7 +49,8 @@ static uint32_t random32(void)
 static uint32_t below(uint32_t n) { return (uint32_t)((uint64_t)random32() * n >> 32); }
 static int chance(uint32_t percent) { return below(100) < percent; }
 
-static uint64_t records_run, damaged_records, damaged_lengths, refused13, survived, met[26], replies_met[3];
+static uint64_t records_run, damaged_records, damaged_lengths, refused13, survived;
+static uint64_t met[26], replies_met[3], kept_met[7];
 
 static void fail(const char *what)
 {
@@ -157,6 +158,13 @@ static void lend_right(model *m)
         lend(&m->buffer[i], m->right[i], chance(70));
 }
 
+static void check_kept(const model *m)
+{
+    if (m->t->kept != m->plain.kept.kind || m->t->kept_lun != m->plain.kept.lun || m->t->kept_at != m->plain.kept.next)
+        fail("what is kept behind a status is not the plain model's");
+    kept_met[m->t->kept]++;
+}
+
 static void check_same(const model *m)
 {
     for (unsigned i = 0; i < BUFFERS; i++)
@@ -166,6 +174,7 @@ static void check_same(const model *m)
         if (m->t->working[l] != m->plain.lun[l].working || m->t->fail[l] != m->plain.lun[l].fail
             || m->t->copyback[l] != m->plain.lun[l].copyback)
             fail("a LUN's marks are not the plain model's");
+    check_kept(m);
 }
 
 static uint32_t plain_power(model *m, const size_t *n, uint8_t device)
@@ -270,7 +279,7 @@ static void many(writer *w, const model *m, unsigned kind)
 static void job(writer *w, const model *m)
 {
     uint32_t row = some_row(m);
-    switch (below(16)) {
+    switch (below(19)) {
     case 0: case 1: case 14:                                    /* read, and of a copyback's halves the first */
         add(w, 0, 0x00), addresses(w, some_column(m), 2), addresses(w, row, 3), add(w, 0, chance(60) ? 0x30 : 0x35);
         if (chance(80))
@@ -297,6 +306,21 @@ static void job(writer *w, const model *m)
         break;
     case 9:
         add(w, 0, 0x05), addresses(w, some_column(m), 2), add(w, 0, 0xE0), many(w, m, NIB_DATA_OUT);
+        break;
+    case 16: case 17: case 18:                                  /* what is open, polled for, and gone on with */
+        for (uint32_t n = 1 + below(3); n > 0; n--) {
+            if (chance(70))
+                add(w, 0, 0x70);
+            else
+                add(w, 0, 0x78), addresses(w, chance(80) ? nib_row(m->part, m->t->selected, 0, 0) : row, 3);
+            if (chance(60))
+                add(w, NIB_DATA_OUT, 0);
+        }
+        if (chance(30))                                         /* within the parameter page, open or kept */
+            add(w, 0, 0x05), addresses(w, chance(70) ? below(790) : some_column(m), 2), add(w, 0, 0xE0);
+        else
+            add(w, 0, 0x00);
+        many(w, m, NIB_DATA_OUT);
         break;
     case 10:                                                    /* identification */
         add(w, 0, chance(50) ? 0x90 : 0xEC), add(w, 1, chance(50) ? 0 : 0x20);
@@ -398,6 +422,7 @@ static void run_both(model *m)
             if (reply != due)
                 fail("a reply is not the plain model's");
             check_reply(reply, m->in[i]);
+            check_kept(m);
             records_run++;
         }
     }
@@ -447,16 +472,19 @@ static void damage_record(model *m)
     }
     default:                    /* another sequence and output, with numbers that may fit it */
         m->t->sequence = (uint8_t)below(9);
-        m->t->first = (uint8_t)below(13);
+        m->t->first = (uint8_t)below(14);
         m->t->got = (uint8_t)below(4);
         m->t->low = chance(50) ? 0 : (uint8_t)random32();
         m->t->mid = chance(50) ? 0 : (uint8_t)random32();
         m->t->value = chance(60) ? 0 : chance(50) ? 0x40 : (uint8_t)random32();
-        m->t->column = chance(50) ? 0 : some_column(m);
+        m->t->column = chance(50) ? 0 : chance(80) ? some_column(m) : 766 + below(4);
         m->t->row = chance(50) ? 0 : some_row(m);
         m->t->output = (uint8_t)below(8);
         m->t->output_lun = below(3);
         m->t->output_at = chance(50) ? 0 : some_column(m);
+        m->t->kept = (uint8_t)(chance(50) ? 0 : below(8));
+        m->t->kept_lun = chance(60) ? 0 : below(3);
+        m->t->kept_at = chance(50) ? 0 : chance(50) ? below(6) : chance(80) ? some_column(m) : 766 + below(4);
         for (unsigned l = 0; l < NIB_MAX_LUNS; l++)
             m->t->copyback[l] = l < m->part.luns ? chance(50) : chance(10);
     }
@@ -663,8 +691,14 @@ int main(int argc, char **argv)
     for (unsigned i = 1; i < 26; i++)
         if (met[i])
             printf(" %u:%llu", i, (unsigned long long)met[i]);
-    printf("\n");
+    printf("; kept behind a status: registers %llu, pages %llu, IDs %llu, signatures %llu, feature bytes %llu\n",
+           (unsigned long long)kept_met[NIB_OUTPUT_REGISTER], (unsigned long long)kept_met[NIB_OUTPUT_PARAMETERS],
+           (unsigned long long)kept_met[NIB_OUTPUT_IDS], (unsigned long long)kept_met[NIB_OUTPUT_SIGNATURE],
+           (unsigned long long)kept_met[NIB_OUTPUT_FEATURE]);
     /* a test that met nothing has tested nothing */
+    for (unsigned i = NIB_OUTPUT_REGISTER; i <= NIB_OUTPUT_FEATURE; i++)
+        if (i != NIB_OUTPUT_STATUS && kept_met[i] == 0 && count >= 1000000)
+            fail("an output was never kept");
     for (unsigned i = 1; i <= 25; i++)
         if ((i <= 14 || i >= 20) && met[i] == 0 && count >= 1000000)
             fail("a refusal was never met");

@@ -16,7 +16,8 @@ NIB_LAYOUT(SAME)
 /* No field of the header is missing there: the bytes of all fields together are those up to the last one's end, since the record has
  * padding at its end alone. */
 #define BYTES(field, place, bytes) + (bytes)
-_Static_assert((0 NIB_LAYOUT(BYTES)) == offsetof(nib_target, copyback) + sizeof(((nib_target *)0)->copyback), "bytes of all fields");
+_Static_assert((0 NIB_LAYOUT(BYTES)) == offsetof(nib_target, kept) + sizeof(((nib_target *)0)->kept),
+               "bytes of all fields");
 
 int main(void)
 {

@@ -8,7 +8,7 @@
 
 typedef struct fields {
     uint32_t data, spare, pages, blocks, luns, programs;
-    unsigned features;          /* bit 1 more LUNs than one, bit 8 program-clear */
+    unsigned features;          /* bit 1 more LUNs than one, bit 2 pages in any order, bit 8 program-clear */
     unsigned optional;          /* bit 2 EEh and EFh, bit 3 78h, bit 4 copyback, bit 6 06h */
 } fields;
 

@@ -354,6 +354,34 @@ static void time_pages(const fields *f)
     must(memcmp(small_part.proved.array, small_part.plain.array, nib_array_length(small_part.part)) == 0, "the arrays differ");
 }
 
+/* A 10h for the first page of a block whose other counts are 0, so that all of them are looked at, and one for the last
+ * page, above which there is none to look at. */
+static void time_order(const char *name, const fields *f)
+{
+    pair p;
+    static double t[4][TIMES];
+    double m[4], cost = clock_cost();
+    unsigned last;
+
+    open_pair(&p, f);
+    last = (unsigned)p.part.pages - 1;
+    for (int proved = 0; proved < 2; proved++)
+        must(one(&p, proved, 0, 0xFF) == 0, "FFh");
+    for (unsigned i = 0; i < TIMES; i++) {
+        forget_counts(&p);
+        for (int proved = 0; proved < 2; proved++) {
+            t[proved][i] = timed_work(&p, proved, PROGRAM, 0);
+            t[2 + proved][i] = timed_work(&p, proved, PROGRAM, last);
+        }
+    }
+    must(p.proved.counts[0] == 1 && p.proved.counts[last] == 1, "programs in order");
+    must(memcmp(p.proved.counts, p.plain.counts, nib_counts_length(p.part)) == 0, "the counts differ");
+    for (unsigned k = 0; k < 4; k++)
+        m[k] = middle(t[k], TIMES) - cost;
+    printf("order %s pages %zu proved %.1f proved-last %.1f plain %.1f plain-last %.1f\n", name, p.part.pages, m[1],
+           m[3], m[0], m[2]);
+}
+
 static void time_power(const char *name, const fields *f)
 {
     pair p;
@@ -374,6 +402,8 @@ int main(int argc, char **argv)
     static const fields single = {8192, 448, 8, 8, 1, 8, FEATURES_ALL & ~2u, OPTIONAL_ALL};
     static const fields narrow = {16, 0, 4, 8, 2, 4, FEATURES_ALL, OPTIONAL_ALL};
     static const fields wide = {8192, 448, 256, 16, 1, 4, 0x100, OPTIONAL_ALL};
+    static const fields tall = {16, 0, 256, 2, 1, 4, 0x100, OPTIONAL_ALL};
+    static const fields tall_wide = {8192, 448, 256, 2, 1, 4, 0x100, OPTIONAL_ALL};
 
     if (argc == 3) {
         pair p;
@@ -390,6 +420,8 @@ int main(int argc, char **argv)
     time_trace("refusals", &T1, refusal_trace);
     time_trace("jobs", &narrow, job_trace);
     time_pages(&single);
+    time_order("16", &tall);
+    time_order("8640", &tall_wide);
     time_power("T1", &T1);
     time_power("8640", &wide);
     return 0;

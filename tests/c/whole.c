@@ -7,6 +7,9 @@
 
 static unsigned checks, failures;
 
+/* The record without the padding at its end. */
+enum { USED = offsetof(nib_target, kept) + 1 };
+
 static void same(const char *what, unsigned long long is, unsigned long long should)
 {
     checks++;
@@ -129,7 +132,7 @@ static void whole_case(void)
     same("trace", nib_lent_trace(&x.t, &x.b, in, sizeof in, replies, sizeof replies), 0);
     same("replies", (unsigned)memcmp(replies, out, sizeof out), 0);
     same("room to spare", replies[sizeof out] == 0xCC && replies[sizeof out + 1] == 0xCC, 1);
-    same("the same record", (unsigned)memcmp(&x.t, &after, offsetof(nib_target, copyback) + 4), 0);
+    same("the same record", (unsigned)memcmp(&x.t, &after, USED), 0);
     close_bench(&x);
 }
 
@@ -322,6 +325,176 @@ static void copyback(void)
     close_bench(&x);
 }
 
+/* A block's pages upward: a program below a written page is accepted, changes nothing but the LUN's record, and FAIL
+ * tells; the same page again, other blocks, an erased one and a part with feature bit 2 are as ever. */
+static void page_order(void)
+{
+    static const uint8_t zero = 0x00;
+    fields w = T1;
+    bench x;
+    size_t three, one;
+
+    for (unsigned any = 0; any < 2; any++) {
+        w.features = FEATURES_ALL | (any ? NIB_FEATURE_ANY_ORDER : 0u);
+        w.optional = OPTIONAL_ALL;
+        open_bench(&x, &w);
+        three = nib_page_start(x.part, 1, 5, 3);
+        one = nib_page_start(x.part, 1, 5, 1);
+        command(&x, 0xFF);
+        program(&x, nib_row(x.part, 1, 5, 3), 0, &zero, 1);
+        event(&x, NIB_FINISH, 1);
+        same("page 3", status(&x, 32), BYTE(0xE0));
+        program(&x, nib_row(x.part, 1, 5, 1), 0, &zero, 1);
+        same("page 1 works", status(&x, 32), BYTE(0x80));
+        event(&x, NIB_FINISH, 1);
+        same("page 1 below page 3", status(&x, 32), any ? BYTE(0xE0) : BYTE(0xE1));
+        same("its mark", x.t.fail[1], !any);
+        same("its byte", x.b.array[one], any ? 0x00 : 0xFF);
+        same("its count", x.b.counts[one / 528], any);
+        program(&x, nib_row(x.part, 1, 5, 3), 1, &zero, 1);
+        event(&x, NIB_FINISH, 1);
+        same("page 3 again", status(&x, 32), BYTE(0xE0));
+        same("its bytes", x.b.array[three] == 0x00 && x.b.array[three + 1] == 0x00 && x.b.counts[three / 528] == 2, 1);
+        program(&x, nib_row(x.part, 1, 4, 0), 0, &zero, 1);
+        event(&x, NIB_FINISH, 1);
+        same("another block", status(&x, 32), BYTE(0xE0));
+
+        same("00h", command(&x, 0x00), NIB_ACCEPTED);
+        same("column of 00h", column(&x, 0), NIB_ACCEPTED);
+        same("row of 00h", row(&x, nib_row(x.part, 1, 5, 3)), NIB_ACCEPTED);
+        same("35h", command(&x, 0x35), NIB_ACCEPTED);
+        event(&x, NIB_FINISH, 1);
+        same("85h", command(&x, 0x85), NIB_ACCEPTED);
+        same("column of 85h", column(&x, 0), NIB_ACCEPTED);
+        same("row of 85h", row(&x, nib_row(x.part, 1, 5, 2)), NIB_ACCEPTED);
+        same("its 10h", command(&x, 0x10), NIB_ACCEPTED);
+        event(&x, NIB_FINISH, 1);
+        same("copyback downward", status(&x, 32), any ? BYTE(0xE0) : BYTE(0xE1));
+        same("its byte", x.b.array[nib_page_start(x.part, 1, 5, 2)], any ? 0x00 : 0xFF);
+        same("closed", x.t.copyback[1], 0);
+
+        command(&x, 0x60);
+        row(&x, nib_row(x.part, 1, 5, 0));
+        same("D0h", command(&x, 0xD0), NIB_ACCEPTED);
+        event(&x, NIB_FINISH, 1);
+        program(&x, nib_row(x.part, 1, 5, 1), 0, &zero, 1);
+        event(&x, NIB_FINISH, 1);
+        same("page 1 after an erase", status(&x, 32), BYTE(0xE0));
+        same("its byte", x.b.array[one], 0x00);
+        x.b.counts[one / 528 + 1] = 1;                  /* a host may write a count: it is the one that is looked at */
+        program(&x, nib_row(x.part, 1, 5, 1), 0, &zero, 1);
+        event(&x, NIB_FINISH, 1);
+        same("page 1 below a count that was written", status(&x, 32), any ? BYTE(0xE0) : BYTE(0xE1));
+        close_bench(&x);
+    }
+}
+
+/* A loader that polls: 70h until the page has come, then 00h and data out; the record has what is kept meanwhile. 05h
+ * within the parameter page. */
+static void polling(void)
+{
+    static const uint8_t bytes_in[] = {0x11, 0x22, 0x33};
+    bench x;
+    uint32_t at;
+    uint64_t r;
+
+    open_bench(&x, &T1);
+    at = nib_row(x.part, 1, 0, 0);
+    command(&x, 0xFF);
+    program(&x, at, 0, bytes_in, sizeof bytes_in);
+    event(&x, NIB_FINISH, 1);
+    same("00h", command(&x, 0x00), NIB_ACCEPTED);
+    same("column of 00h", column(&x, 1), NIB_ACCEPTED);
+    same("row of 00h", row(&x, at), NIB_ACCEPTED);
+    same("30h", command(&x, 0x30), NIB_ACCEPTED);
+    same("nothing kept", x.t.kept == NIB_OUTPUT_NONE && x.t.kept_lun == 0 && x.t.kept_at == 0, 1);
+    same("70h", command(&x, 0x70), NIB_ACCEPTED);
+    same("the register is kept", x.t.kept == NIB_OUTPUT_REGISTER && x.t.kept_lun == 1 && x.t.kept_at == 1, 1);
+    same("busy", data_out(&x), BYTE(0x80));
+    event(&x, NIB_FINISH, 1);
+    same("ready", data_out(&x), BYTE(0xE0));
+    same("no unread rest behind a status", nib_lent_rest(&x.t, &x.b), 0);
+    same("00h with no address", command(&x, 0x00), NIB_ACCEPTED);
+    same("a sequence", x.t.sequence == NIB_SEQUENCE_COLUMNS && x.t.first == NIB_FIRST_READ && x.t.got == 0, 1);
+    same("still kept", x.t.kept == NIB_OUTPUT_REGISTER && x.t.output == NIB_OUTPUT_NONE, 1);
+    same("no unread rest after a bare 00h", nib_lent_rest(&x.t, &x.b), 0);
+    same("protect event", event(&x, NIB_PROTECT, 1), REFUSED(11));
+    same("the next byte", data_out(&x), BYTE(0x22));
+    same("plain output", x.t.sequence == NIB_SEQUENCE_NONE && x.t.output == NIB_OUTPUT_REGISTER && x.t.output_at == 2, 1);
+    same("nothing kept", x.t.kept == NIB_OUTPUT_NONE && x.t.kept_lun == 0 && x.t.kept_at == 0, 1);
+    r = nib_lent_rest(&x.t, &x.b);
+    same("its rest", nib_rest_buffer(r) == NIB_REST_REGISTERS && nib_rest_start(r) == 528 + 2, 1);
+    same("its length", nib_rest_length(r), 526);
+    same("78h of the LUN", status(&x, nib_row(x.part, 1, 7, 3)), BYTE(0xE0));
+    same("keeps it", x.t.kept == NIB_OUTPUT_REGISTER && x.t.kept_at == 2, 1);
+    same("00h", command(&x, 0x00), NIB_ACCEPTED);
+    same("on", data_out(&x), BYTE(0x33));
+    same("78h of another LUN", status(&x, 0), BYTE(0xE0));
+    same("loses it", x.t.kept, NIB_OUTPUT_NONE);
+    same("00h", command(&x, 0x00), NIB_ACCEPTED);
+    same("nothing to go on with", data_out(&x), REFUSED(NIB_REFUSED_OUT_OF_PLACE));
+
+    same("ECh", command(&x, 0xEC), NIB_ACCEPTED);
+    same("its address", address(&x, 0), NIB_ACCEPTED);
+    same("70h", command(&x, 0x70), NIB_ACCEPTED);
+    same("the page is kept", x.t.kept == NIB_OUTPUT_PARAMETERS && x.t.kept_at == 0, 1);
+    same("05h", command(&x, 0x05), NIB_ACCEPTED);
+    same("its number", x.t.first, NIB_FIRST_CHANGE_COLUMN_IN_PAGE);
+    same("column 767", column(&x, 767), NIB_ACCEPTED);
+    same("E0h", command(&x, 0xE0), NIB_ACCEPTED);
+    same("the last byte", data_out(&x), BYTE(x.page[255]));
+    same("05h, the page all read", command(&x, 0x05), NIB_ACCEPTED);
+    same("column 768", column(&x, 768), REFUSED(4));
+    same("05h, nothing open", command(&x, 0x05), NIB_ACCEPTED);
+    same("its number", x.t.first, NIB_FIRST_CHANGE_COLUMN);
+    same("column 528", column(&x, 528), REFUSED(4));
+    close_bench(&x);
+}
+
+/* One number of the record set to what no run gives it is 13, and its neighbour is not. */
+static void kept_records(void)
+{
+    static const struct { uint8_t kept; size_t lun, at; uint32_t due; } tried[] = {
+        {NIB_OUTPUT_REGISTER, 1, 528, NIB_ACCEPTED}, {NIB_OUTPUT_REGISTER, 1, 529, REFUSED(13)},
+        {NIB_OUTPUT_REGISTER, 2, 0, REFUSED(13)}, {NIB_OUTPUT_PARAMETERS, 1, 0, REFUSED(13)},
+        {NIB_OUTPUT_PARAMETERS, 0, 768, NIB_ACCEPTED}, {NIB_OUTPUT_PARAMETERS, 0, 769, REFUSED(13)},
+        {NIB_OUTPUT_STATUS, 0, 0, REFUSED(13)}, {NIB_OUTPUT_STATUS, 1, 0, REFUSED(13)},
+        {NIB_OUTPUT_IDS, 0, 2, NIB_ACCEPTED}, {NIB_OUTPUT_IDS, 0, 3, REFUSED(13)},
+        {NIB_OUTPUT_SIGNATURE, 0, 4, NIB_ACCEPTED}, {NIB_OUTPUT_SIGNATURE, 0, 5, REFUSED(13)},
+        {NIB_OUTPUT_FEATURE, 0, 4, NIB_ACCEPTED}, {NIB_OUTPUT_FEATURE, 0, 5, REFUSED(13)},
+        {NIB_OUTPUT_NONE, 1, 0, REFUSED(13)}, {NIB_OUTPUT_NONE, 0, 1, REFUSED(13)}, {7, 0, 0, REFUSED(13)},
+        {NIB_OUTPUT_REGISTER, SIZE_MAX, 0, REFUSED(13)}, {NIB_OUTPUT_REGISTER, 0, SIZE_MAX, REFUSED(13)}};
+    bench x;
+    nib_target before;
+
+    open_bench(&x, &T1);
+    command(&x, 0xFF);
+    command(&x, 0x70);
+    for (size_t i = 0; i < sizeof tried / sizeof tried[0]; i++) {
+        before = x.t;
+        x.t.kept = tried[i].kept;
+        x.t.kept_lun = tried[i].lun;
+        x.t.kept_at = tried[i].at;
+        same("kept", command(&x, 0x70), tried[i].due);
+        x.t = before;
+    }
+    /* 05h, both its cycles given, E0h due: in the page a column is below 768, else below P */
+    for (unsigned i = 0; i < 4; i++) {
+        before = x.t;
+        x.t.output = NIB_OUTPUT_NONE;
+        x.t.output_lun = 0;
+        x.t.sequence = NIB_SEQUENCE_DUE;
+        x.t.first = i < 2 ? NIB_FIRST_CHANGE_COLUMN_IN_PAGE : NIB_FIRST_CHANGE_COLUMN;
+        x.t.column = (i < 2 ? 767 : 527) + i % 2;
+        same("column of 05h", command(&x, 0xE0), i % 2 ? REFUSED(13) : NIB_ACCEPTED);
+        x.t = before;
+    }
+    x.t.first = 13;
+    x.t.sequence = NIB_SEQUENCE_DUE;
+    same("no such first command", command(&x, 0xE0), REFUSED(13));
+    close_bench(&x);
+}
+
 static void refused_calls(void)
 {
     static const uint8_t odd[] = {0, 0xFF, 7};
@@ -334,7 +507,7 @@ static void refused_calls(void)
     before = x.t;
     same("short room", nib_lent_trace(&x.t, &x.b, odd, 3, replies, 3), 16);
     same("nothing written", replies[0] == 9 && replies[1] == 9 && replies[2] == 9, 1);
-    same("nothing run", (unsigned)memcmp(&x.t, &before, offsetof(nib_target, copyback) + 4), 0);
+    same("nothing run", (unsigned)memcmp(&x.t, &before, USED), 0);
     same("odd byte", nib_lent_trace(&x.t, &x.b, odd, 3, replies, 4), 0);
     same("its reply", replies[2] == 2 && replies[3] == 12, 1);
     same("empty trace", nib_lent_trace(&x.t, &x.b, NULL, 0, NULL, 0), 0);
@@ -343,7 +516,7 @@ static void refused_calls(void)
     x.t.sequence = 8;
     before = x.t;
     same("no such sequence", command(&x, 0xFF), REFUSED(13));
-    same("it stays", (unsigned)memcmp(&x.t, &before, offsetof(nib_target, copyback) + 4), 0);
+    same("it stays", (unsigned)memcmp(&x.t, &before, USED), 0);
     x.t = powered;
     x.t.high = 2;
     same("a mark of 2", command(&x, 0xFF), REFUSED(13));
@@ -589,6 +762,9 @@ int main(void)
     lost_preset(0);
     rest();
     copyback();
+    page_order();
+    polling();
+    kept_records();
     refused_calls();
     checked_pages();
     text_and_words();

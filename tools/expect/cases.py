@@ -1,15 +1,16 @@
 #!/usr/bin/env python3
-"""cases.py: writes crates/test_table/data/table, the expectations that the program `test_table` holds the model to; with
---check, only says whether that file is what it would write.
+"""cases.py: writes crates/test_table/data/table and table2, the expectations that the program `test_table` holds the model
+to; with --check, only says whether these files are what it would write. A mismatch is told with its line, and the lines
+of the second file are counted on from the first's.
 
-Every expectation below is written by hand from the words of document 01 and of request A1 of document 02 (quoted or named
-beside the states); none is taken from the model, which this script neither calls nor reads, and no state is worked out by
-running anything. The script only
-EXPANDS what each state says:
+Every expectation below is written by hand from the words of document 01 and of requests A1, A2 and A4 of document
+02 (quoted or named beside the states); none is taken from the model, which this script neither calls nor reads, and no
+state is worked out by running anything. The script only EXPANDS what each state says:
   seq(..)   a place with an open sequence: its own line says which commands, addresses and data fit and what they give;
-            every other listed command is refused 3, FFh is accepted, a protect event is refused 11, no byte comes out;
+            every other listed command is refused 3, FFh is accepted, a protect event is refused 11, no byte comes out
+            (after a bare 00h the line says what does);
   idle(..)  a place with no open sequence: the first commands are accepted, the others refused 3; its line says what 70h
-            shows, which LUNs work and what data out gives.
+            shows, which LUNs work, what data out gives, and what it gives after 00h with no address.
 Each cell has two replies: the event's own, and that of a data out right after it. The second goes by these words of 01:
 a refused bus cycle leaves no output (3; 2 before the first FFh); a bench refusal changes nothing, so the place's own
 data out; FFh drops output (3); an accepted command or address leaves what its line says, 3 where that is nothing; finish
@@ -35,10 +36,16 @@ import os
 import sys
 
 OUT = []
+FILES = [('table', 0)]
 
 
 def line(tag, words=()):
     OUT.append((tag + ' ' + ' '.join(words)).rstrip())
+
+
+def second():
+    """What follows goes to a file of its own, which begins with a part: the program holds one of up to 512 KiB at a time."""
+    FILES.append(('table2', len(OUT)))
 
 
 # Replies as the record's two bytes in one number.
@@ -150,7 +157,7 @@ def crc(page):
 PART = {}
 
 
-def part(name, data, spare, pages, blocks, luns, programs=2, features=0x0102, optional=0x005C, counts=None, flags=None):
+def part(name, data, spare, pages, blocks, luns, programs=2, features=0x0106, optional=0x005C, counts=None, flags=None):
     page = [0] * 256
     page[0:4] = b'ONFI'
     page[6:8] = features % 256, features // 256
@@ -258,15 +265,16 @@ def before(name, prefix):
     put(name, prefix, {}, [], no(2), no(2), no(2), no(2), (), False, (no(2), no(2)), {}, 2)
 
 
-def seq(name, prefix, takes=None, address=no(3), data=no(3), works=()):
-    """A sequence is open: no output, and a protect event is 11."""
-    put(name, prefix, takes or {}, [], address, data, no(3), no(3), works, True, None, {}, 3)
+def seq(name, prefix, takes=None, address=no(3), data=no(3), works=(), out=no(3), then=no(3), finish=None):
+    """A sequence is open: no output, but what a bare 00h goes on with, and a protect event is 11."""
+    put(name, prefix, takes or {}, [], address, data, out, then, works, True, None, finish or {}, 3)
 
 
-def idle(name, prefix, seventy=byte(0xE0), out=no(3), then=no(3), works=(), protect=None, finish=None):
+def idle(name, prefix, seventy=byte(0xE0), out=no(3), then=no(3), works=(), protect=None, finish=None, resumed=no(3)):
     """No sequence is open: first commands are accepted; 90h, ECh, EEh, EFh are 6 while any LUN works, and 70h (seventy: what
-    it shows, or no(6)) while a LUN other than the selected one works."""
-    takes = {v: ok for v in (0x00, 0x05, 0x06, 0x60, 0x78, 0x80, 0x85)}
+    it shows, or no(6)) while a LUN other than the selected one works. Data out after a bare 00h is `resumed`."""
+    takes = {v: ok for v in (0x05, 0x06, 0x60, 0x78, 0x80, 0x85)}
+    takes[0x00] = (ok, resumed)
     takes.update({v: no(6) if works else ok for v in (0x90, 0xEC, 0xEE, 0xEF)})
     takes[0x70] = no(6) if seventy == no(6) else (ok, seventy)
     put(name, prefix, takes, [], no(3), no(3), out, then, works, False, protect or (out, out), finish or {}, 3)
@@ -508,10 +516,14 @@ idle('both worked, LUN 1 finished', FF + program(0, 0) + read(4) + f(1), seventy
 idle('both worked, both finished', FF + program(0, 0) + read(4) + f(0, 1), seventy=byte(0xE0), out=byte(0x40), then=byte(0x41))
 idle('register of LUN 0 while LUN 1 works', FF + read(1) + f(0) + program(4, 0) + c(0x06) + col(7) + row(0) + c(0xE0), seventy=no(6), out=byte(0xFF), then=byte(0xFF), works=(1,))
 idle('register of LUN 0 read while LUN 1 works', FF + program(4, 0) + read(1, 6) + f(0), seventy=no(6), out=byte(0x16), then=byte(0x17), works=(1,))
-idle('status of a working LUN by 70h', FF + read(1) + c(0x70), seventy=byte(0x80), out=byte(0x80), then=byte(0x80), works=(0,), finish={0: byte(0xE0)})
-idle('status of a working LUN by 78h', FF + read(4) + look(4), seventy=byte(0x80), out=byte(0x80), then=byte(0x80), works=(1,), finish={1: byte(0xE0)})
+# (A2: 00h and data out after these goes on from a register of a working LUN.)
+idle('status of a working LUN by 70h', FF + read(1) + c(0x70), seventy=byte(0x80), out=byte(0x80), then=byte(0x80),
+     works=(0,), finish={0: byte(0xE0)}, resumed=no(5))
+idle('status of a working LUN by 78h', FF + read(4) + look(4), seventy=byte(0x80), out=byte(0x80), then=byte(0x80),
+     works=(1,), finish={1: byte(0xE0)}, resumed=no(5))
 idle('status of LUN 0 by 78h while LUN 1 works', FF + read(4) + look(0), seventy=no(6), out=byte(0xE0), then=byte(0xE0), works=(1,))
-idle('status of a working LUN, line low', FF + p(0) + read(1) + c(0x70), seventy=byte(0x00), out=byte(0x00), then=byte(0x00), works=(0,), finish={0: byte(0x60)})
+idle('status of a working LUN, line low', FF + p(0) + read(1) + c(0x70), seventy=byte(0x00), out=byte(0x00),
+     then=byte(0x00), works=(0,), finish={0: byte(0x60)}, resumed=no(5))
 idle('status of a LUN that will have failed', FF + program(2, 0) + c(0x70), seventy=byte(0x80), out=byte(0x80), then=byte(0x80), works=(0,), finish={0: byte(0xE1)})
 
 # FAIL, shown when ready: "128 if the line is high, plus 96 if ready, plus FAIL if ready".
@@ -572,7 +584,8 @@ idle('copyback: LUN 1 reads', FF + copyback(5, 3), seventy=byte(0x80), out=no(5)
 idle('copyback: open on LUN 1', COPY, out=byte(0x53), then=byte(0x54))
 idle('copyback: open on LUN 1, line low', COPY + p(0), seventy=byte(0x60), out=byte(0x53), then=byte(0x54))
 idle('copyback: open on both LUNs', COPY + copyback(0, 4) + f(0), out=byte(0x04), then=byte(0x05))
-idle('copyback: status of a LUN that reads', FF + copyback(1) + c(0x70), seventy=byte(0x80), out=byte(0x80), then=byte(0x80), works=(0,), finish={0: byte(0xE0)})
+idle('copyback: status of a LUN that reads', FF + copyback(1) + c(0x70), seventy=byte(0x80), out=byte(0x80),
+     then=byte(0x80), works=(0,), finish={0: byte(0xE0)}, resumed=no(5))
 idle('copyback: failed, then read', FF + erase(2) + f(0) + copyback(2) + f(0), out=byte(0x20), then=byte(0x21))
 idle('copyback: FFh while it is open', COPY + FF)
 
@@ -1344,6 +1357,12 @@ RECORD = {
     '00h column': 0x20, '00h row': 0x21, '06h column': 0x22, '06h row': 0x23, '05h column': 0x24, '60h row': 0x25,
     '80h place': 0x26, '80h row': 0x27, '85h row': 0x28, 'EFh bytes': 0x29, 'copyback place': 0x2A, 'copyback row': 0x2B,
     'copyback move row': 0x2C, 'program opened by': 0x2D, 'move opened by': 0x2E,
+    # 05h in the parameter page with both its addresses
+    '05h column in the page': 0x2F,
+    # a status of LUN 0 is open, and kept behind it is an output as above: the register of LUN 0 from a column on, that
+    # of a LUN from column 0 on, the parameter page, a LUN's status, IDs, the signature, the feature, each from a place on
+    'kept register column': 0x30, 'kept register LUN': 0x31, 'kept parameter place': 0x32, 'kept status LUN': 0x33,
+    'kept ID place': 0x34, 'kept signature place': 0x35, 'kept feature place': 0x36,
 }
 
 
@@ -1484,6 +1503,469 @@ fine('copyback of LUN 0', 1, refused(c(0x85), 1) + c(0x70) + given(0xE0))
 fine('copyback place', 0, i(0xFF) + c(0x85) + col(1) + i(0xFF) + c(0x10) + f(0) + c(0x70) + given(0xE0))
 
 # ---------------------------------------------------------------------------------------------------------------------
+# The second file: the requests from A2 on.
+second()
+part('A: 16+0, 2 pages, 2 blocks, 2 LUNs, all options', 16, 0, 2, 2, 2, counts={1: 2, 5: 1}, flags={1: 1})
+# A2, polling loaders, on A. "After status, 00h with no address and then data out goes on from the output that was open
+# before, at its next byte."
+def behind(name, prefix, resumed, seventy=byte(0xE0), works=(), protect=UP):
+    """A status is open, of a LUN that is ready, and this is kept behind it."""
+    idle('behind a status: ' + name, prefix, seventy=seventy, out=byte(0xE0), then=byte(0xE0), works=works,
+         protect=protect, resumed=resumed)
+
+
+KEEP = FF + read(5, 3) + f(1)
+S70 = c(0x70)
+# "70h keeps that memory": every output but a status.
+behind('register of LUN 1', KEEP + S70, byte(0x53))
+behind('register of LUN 1, the status read', KEEP + S70 + o(3), byte(0x53))
+behind('register of LUN 1, bytes taken', KEEP + o(4) + S70 + o(), byte(0x57))
+behind('register, the last byte', FF + read(5, 0x0F) + f(1) + S70, byte(0x5F))
+behind('register, used up', FF + read(5, 0x0F) + f(1) + o() + S70, no(8))
+behind('register, its LUN finished meanwhile', FF + read(1, 4) + S70 + o(2) + f(0) + o(), byte(0x14))
+behind('register after 05h', KEEP + c(0x05) + col(9) + c(0xE0) + o() + S70, byte(0x5A))
+behind('register after 06h', FF + read(6) + f(1) + read(1) + f(0) + c(0x06) + col(8) + row(7) + c(0xE0) + S70,
+       byte(0x68))
+behind('register for a copyback', COPY + o() + S70, byte(0x54))
+behind('parameter page, place 0', PAGE + S70, byte(0x4F))
+behind('parameter page, place 64', PAGE + o(64) + S70 + o(), byte(0x2C))
+behind('parameter page, place 767', PAGE + o(767) + S70, byte(crc_high))
+behind('parameter page, all read', PAGE + o(768) + S70, no(8))
+behind('IDs, maker', IDS + S70, byte(0x2C))
+behind('IDs, device', IDS + o() + S70, byte(0x68))
+behind('IDs, used up', IDS + o(2) + S70, no(8))
+behind('signature, 4 left', SIGN + S70, byte(0x4F))
+behind('signature, 1 left', SIGN + o(3) + S70, byte(0x49))
+behind('signature, used up', SIGN + o(4) + S70, no(8))
+behind('feature, program-clear on', FF + CLEAR_ON + GET + S70, byte(0x40))
+behind('feature, 1 left', FF + CLEAR_ON + GET + o(3) + S70, byte(0x00))
+behind('feature, used up', FF + GET + o(4) + S70, no(8))
+idle('behind a status: line low', FF + p(0) + KEEP[1:] + S70, seventy=byte(0x60), out=byte(0x60), then=byte(0x60),
+     protect=UP, resumed=byte(0x53))
+idle('behind a status: a LUN that failed', FF + erase(2) + f(0) + IDS[1:] + S70, seventy=byte(0xE1), out=byte(0xE1),
+     then=byte(0xE1), protect=FAILED, resumed=byte(0x2C))
+# A second status hands on what the first keeps; what is shown is no output to be kept.
+behind('two statuses', KEEP + S70 + o() + S70, byte(0x53))
+behind('three statuses, the page', PAGE + o(2) + S70 + S70 + o() + S70, byte(0x46))
+behind('70h with nothing open before', FF + S70 + S70, no(3))
+# "78h keeps it only if the row names the register's LUN", whatever else that row names.
+behind('78h of its LUN', KEEP + look(4), byte(0x53))
+behind('78h of its LUN, another block and page', KEEP + o() + look(7) + o(2), byte(0x54))
+behind('78h of its LUN, a page that is not the one read', FF + read(1, 2) + f(0) + look(3), byte(0x12))
+behind('78h of another LUN', KEEP + look(0), no(3))
+behind('78h of another LUN, then of its own', KEEP + look(0) + look(4), no(3))
+behind('78h of its LUN, then of another', KEEP + look(4) + look(1), no(3))
+behind('70h, then 78h of its LUN', KEEP + S70 + look(6), byte(0x53))
+behind('78h of its LUN, then 70h', KEEP + look(6) + S70, byte(0x53))
+behind('70h, then 78h of another LUN', KEEP + S70 + look(3), no(3))
+behind('78h and the parameter page', PAGE + look(0), no(3))
+behind('70h, then 78h, and the parameter page', PAGE + S70 + look(0), no(3))
+behind('78h and IDs', IDS + look(0), no(3))
+behind('78h and the signature', SIGN + look(0), no(3))
+behind('78h and the feature', FF + GET + look(0), no(3))
+# While another LUN works 70h is refused, and 78h is not.
+ONE_WORKS = FF + program(4, 0) + read(1, 6) + f(0)
+behind('78h, while LUN 1 works', ONE_WORKS + look(0), byte(0x16), seventy=no(6), works=(1,), protect=None)
+behind('a refused 70h has lost it', ONE_WORKS + refused(S70, 6) + look(0), no(3), seventy=no(6), works=(1,),
+       protect=None)
+# "Any other first command or a refused bus cycle (12 and 13 apart) loses it, since the memory counts as output".
+behind('a refused address between', KEEP + S70 + refused(a(0x00), 3) + S70, no(3))
+behind('refused data in between', KEEP + S70 + refused(i(0x00), 3) + S70, no(3))
+behind('a command that does not fit between', KEEP + S70 + refused(c(0x30), 3) + S70, no(3))
+behind('an unknown command between', KEEP + S70 + refused(c(0x01), 1) + S70, no(3))
+behind('78h, a row refused 4', KEEP + S70 + c(0x78) + a(8, 0) + refused(a(0), 4) + S70, no(3))
+behind('78h, given up', KEEP + S70 + c(0x78) + a(4) + refused(S70, 3) + S70, no(3))
+behind('a bare 00h, and a command that is refused there', KEEP + S70 + c(0x00) + refused(S70, 3) + S70, no(3))
+behind('a bare 00h, refused 8', FF + read(5, 0x0F) + f(1) + o() + S70 + c(0x00) + refused(o(), 8) + S70, no(3))
+behind('a bare 00h, refused 5, asked again', FF + read(5, 3) + S70 + c(0x00) + refused(o(), 5) + f(1) + S70, no(3))
+behind('an erase between', KEEP + S70 + erase(4) + f(1) + S70, no(3))
+behind('a program between', KEEP + S70 + program(4, 0) + f(1) + S70, no(3))
+behind('a read between: its own register', KEEP + S70 + read(1, 2) + f(0) + S70, byte(0x12))
+behind('IDs between: they are kept', KEEP + S70 + IDS[1:] + o() + S70, byte(0x68))
+behind('EFh between', KEEP + S70 + CLEAR_ON + S70, no(3))
+behind('05h between: the register from there', KEEP + S70 + c(0x05) + col(9) + c(0xE0) + S70, byte(0x59))
+behind('FFh between', KEEP + S70 + FF + S70, no(3))
+# Bench events and bench refusals keep it; so does 12.
+behind('bench events and refusals between', KEEP + S70 + refused(f(1), 10) + refused(BAD, 12) + p(0) + p(1) + o(),
+       byte(0x53))
+behind('finish of the other LUN between', FF + program(0, 0) + read(5, 3) + f(1) + look(4) + f(0), byte(0x53))
+
+# 00h, and no address: a sequence is open, so commands but FFh are 3 and protect events 11, and data out gives what was
+# kept. "An address after 00h makes it a plain read."
+def bare(name, prefix, out=no(3), then=no(3), works=(), finish=None, more=()):
+    seq('bare 00h: ' + name, prefix + c(0x00) + list(more), address=ok, works=works, out=out, then=then, finish=finish)
+
+
+bare('register of LUN 1', KEEP + S70, byte(0x53), byte(0x54))
+bare('register of LUN 1, bytes taken, the status read', KEEP + o(4) + S70 + o(2), byte(0x57), byte(0x58))
+bare('register, the last byte', FF + read(5, 0x0F) + f(1) + S70, byte(0x5F), no(8))
+bare('register, used up', FF + read(5, 0x0F) + f(1) + o() + S70, no(8))
+bare('register of a working LUN', FF + read(5, 3) + S70, no(5), works=(1,), finish={1: byte(0x53)})
+bare('register, its LUN finished after it', FF + read(5, 3) + S70, byte(0x53), byte(0x54), more=f(1))
+bare('register of LUN 0, LUN 1 works', FF + program(4, 0) + read(1, 6) + f(0) + look(0), byte(0x16), byte(0x17),
+     works=(1,))
+bare('behind 78h of its LUN', KEEP + look(7), byte(0x53), byte(0x54))
+bare('behind 78h of another LUN', KEEP + look(3))
+bare('parameter page, place 1', PAGE + o() + S70, byte(0x4E), byte(0x46))
+bare('parameter page, place 767', PAGE + o(767) + S70, byte(crc_high), no(8))
+bare('parameter page, all read', PAGE + o(768) + S70, no(8))
+bare('IDs', IDS + S70, byte(0x2C), byte(0x68))
+bare('IDs, used up', IDS + o(2) + S70, no(8))
+bare('signature', SIGN + o(2) + S70, byte(0x46), byte(0x49))
+bare('feature', FF + CLEAR_ON + GET + S70, byte(0x40), byte(0x00))
+bare('line low', FF + p(0) + KEEP[1:] + S70, byte(0x53), byte(0x54))
+bare('bench refusals between', KEEP + S70, byte(0x53), byte(0x54), more=refused(p(0) + p(1), 11) + refused(f(1),
+     10) + refused(BAD, 12))
+bare('status, and nothing before it', FF + S70)
+bare('straight after output', KEEP + o())
+bare('straight after the parameter page', PAGE)
+bare('gone on with, and no status since', KEEP + S70 + c(0x00) + o())
+seq('00h after a status, 1 address', KEEP + S70 + c(0x00) + a(0x00), address=only(ok))
+seq('00h after a status, 1 address: 10h', KEEP + S70 + c(0x00) + a(0x10), address=no(4))
+seq('00h after a status, 5 addresses', KEEP + S70 + c(0x00) + col(3) + row(5), READ)
+idle('gone on with: plain output', KEEP + S70 + c(0x00) + o(), out=byte(0x54), then=byte(0x55))
+idle('gone on with: used up', FF + read(5, 0x0F) + f(1) + S70 + c(0x00) + o(), out=no(8))
+idle('gone on with: parameter page', PAGE + o(255) + S70 + c(0x00) + o(), out=byte(0x4F), then=byte(0x4E))
+idle('gone on with: IDs', IDS + S70 + c(0x00) + o(), out=byte(0x68), then=no(8))
+behind('gone on with, and kept again', KEEP + S70 + c(0x00) + o(2) + S70 + o() + look(5), byte(0x55))
+
+# 78h decides at its third row cycle; inside its cycles no byte comes out.
+seq('78h over a register, 0 addresses', KEEP + c(0x78), address=ok)
+seq('78h over a register, 1 address', KEEP + S70 + c(0x78) + a(0x04), address=ok)
+seq('78h over a register, 2 addresses', KEEP + c(0x78) + a(0x04, 0x00), address=only((ok, byte(0xE0))))
+seq('78h over the parameter page, 2 addresses', PAGE + S70 + c(0x78) + a(0x00, 0x00), address=only((ok, byte(0xE0))))
+
+# "With the parameter page open, or kept behind 70h, 05h moves within its 768 bytes instead, columns below 768." 0000h,
+# 0100h, 0200h and 0400h are 0, 256, 512 and 1,024; 00FFh, 01FFh and 02FFh are 255, 511 and 767.
+IN_PAGE = [ok, ok, ok] + [no(4)] * 5
+seq('05h in the page, 0 addresses', PAGE + c(0x05), address=ok)
+seq('05h in the page, 1 address: 00h', PAGE + c(0x05) + a(0x00), address=IN_PAGE)
+seq('05h in the page, 1 address: FFh', PAGE + c(0x05) + a(0xFF), address=IN_PAGE)
+seq('05h in the page, all read, 1 address', PAGE + o(768) + c(0x05) + a(0xFF), address=IN_PAGE)
+seq('05h in the page, behind 70h, 1 address', PAGE + S70 + o() + c(0x05) + a(0xFF), address=IN_PAGE)
+seq('05h in the page, behind 70h twice, 1 address', PAGE + S70 + S70 + c(0x05) + a(0x10), address=IN_PAGE)
+seq('05h in the page, all read, behind 70h, 1 address', PAGE + o(768) + S70 + c(0x05) + a(0x00), address=IN_PAGE)
+seq('05h in the page, gone on with, 1 address', PAGE + S70 + c(0x00) + o() + c(0x05) + a(0x00), address=IN_PAGE)
+seq('05h behind 78h, 1 address: 00h', PAGE + look(0) + c(0x05) + a(0x00), address=only(ok))
+seq('05h behind 78h, 1 address: FFh', PAGE + S70 + look(0) + c(0x05) + a(0xFF), address=no(4))
+seq('05h after IDs, 1 address', IDS + c(0x05) + a(0xFF), address=no(4))
+seq('05h behind 70h, a register kept, 1 address', KEEP + S70 + c(0x05) + a(0x10), address=no(4))
+seq('05h after the page was lost, 1 address', PAGE + refused(a(0x00), 3) + c(0x05) + a(0xFF), address=no(4))
+seq('05h in the page refused 4, and 05h again', PAGE + c(0x05) + a(0x00) + refused(a(0x03), 4) + c(0x05) + a(0x10),
+    address=no(4))
+seq('05h in the page, 2 addresses: 64', PAGE + c(0x05) + col(64), {0xE0: (ok, byte(0x2C))})
+seq('05h in the page, 2 addresses: 576', PAGE + o(768) + c(0x05) + col(576), {0xE0: (ok, byte(0x2C))})
+seq('05h in the page, 2 addresses: 767', PAGE + S70 + c(0x05) + col(767), {0xE0: (ok, byte(crc_high))})
+seq('05h in the page, 2 addresses, line low', FF + p(0) + PAGE[1:] + S70 + c(0x05) + col(256), {0xE0: (ok, byte(0x4F))})
+seq('05h behind 78h, 2 addresses: the register', KEEP + PAGE[1:] + look(4) + c(0x05) + col(4), {0xE0: (ok, byte(0x54))})
+idle('page from 05h on, place 255', PAGE + c(0x05) + col(255) + c(0xE0), out=byte(crc_high), then=byte(0x4F))
+idle('page from 05h on, place 767', PAGE + S70 + c(0x05) + col(767) + c(0xE0), out=byte(crc_high), then=no(8))
+idle('page from 05h on, all read', PAGE + S70 + c(0x05) + col(767) + c(0xE0) + o(), out=no(8))
+behind('page from 05h on', PAGE + c(0x05) + col(320) + c(0xE0) + S70, byte(0x2C))
+# Without a page 05h is the register's, whose column is below P.
+seq('05h in the page, then 05h of a register', PAGE + c(0x05) + col(767) + c(0xE0) + read(1, 2) + f(0) + c(0x05) +
+    a(0x0F), address=only(ok))
+
+# On B, which has no 78h.
+part('B: as A, no options', 16, 0, 2, 2, 2, features=0x0002, optional=0x0000, counts={1: 2, 5: 1}, flags={1: 1})
+idle('B: behind 70h', FF + read(5) + f(1) + c(0x70), out=byte(0xE0), then=byte(0xE0), protect=UP, resumed=byte(0x50))
+seq('B: bare 00h', FF + read(5) + f(1) + o() + c(0x70) + c(0x00), address=ok, out=byte(0x51), then=byte(0x52))
+idle('B: a refused 78h has lost it', FF + read(5) + f(1) + c(0x70) + refused(c(0x78), 1) + c(0x70), out=byte(0xE0),
+     then=byte(0xE0), protect=UP)
+
+# On T1 0210h is 528, a column of the parameter page and of no register.
+part(*T1)
+seq('T1: 05h in the page, 1 address: 10h', PAGE + c(0x05) + a(0x10), address=LOW)
+seq('T1: 05h in the page, behind 70h, 1 address: 10h', PAGE + c(0x70) + c(0x05) + a(0x10), address=LOW)
+seq('T1: 05h behind 78h, 1 address: 10h', PAGE + look(0) + c(0x05) + a(0x10), address=TEN)
+seq('T1: 05h in the page, 2 addresses: 576', PAGE + c(0x05) + col(576), {0xE0: (ok, byte(0x2C))})
+
+# On M P is 1,040, above 768: 0300h, 768, is a column of a register and of no parameter page.
+part('M: 1024+16, 1 page, 1 block, 1 LUN', 1024, 16, 1, 1, 1, features=0x0100)
+# Byte 1,024 of the array is 1,024 mod 251 = 20.
+bare('M, register at 1,024', FF + read(0, 1024) + f(0) + S70, byte(20), byte(21))
+bare('M, register at 1,039', FF + read(0, 1039) + f(0) + S70, byte(35), no(8))
+case('polling: columns of the parameter page end at 768, those of a register at P')
+run(FF + read(0) + f(0) + c(0x05) + col(768) + c(0xE0) + given(768 % 251) + c(0x05) + col(1039) + c(0xE0) + given(1039 % 251))
+registers(*at(0, *[n % 251 for n in range(1040)]))
+for poll in ([], S70, S70 + given(0xE0) + S70):
+    run(PAGE[1:] + poll + c(0x05) + col(767) + c(0xE0) + given(PART['page'][255]))
+    run(PAGE[1:] + poll + c(0x05) + a(0x00) + refused(a(0x03), 4))
+    run(PAGE[1:] + poll + c(0x05) + a(0x0F) + refused(a(0x04), 4))
+run(PAGE[1:] + look(0) + c(0x05) + col(768) + c(0xE0) + given(768 % 251))
+run(PAGE[1:] + look(0) + c(0x05) + a(0x10) + refused(a(0x04), 4))
+kept()
+
+# ---------------------------------------------------------------------------------------------------------------------
+# Cases of A2 on A.
+part('A: 16+0, 2 pages, 2 blocks, 2 LUNs, all options', 16, 0, 2, 2, 2, counts={1: 2, 5: 1}, flags={1: 1})
+case('polling: a page, the parameter page, IDs and the feature, byte by byte')
+run(FF + CLEAR_ON + read(5, 1) + c(0x70) + given(0x80, 0x80) + f(1) + given(0xE0) + c(0x00))
+registers(*at(16, *page_of(5)))
+run(given(*range(0x51, 0x58)) + c(0x70) + given(0xE0) + c(0x70) + c(0x00) + given(*range(0x58, 0x60)) + refused(o(),
+    8) + refused(o(), 3))
+run(c(0xEC) + a(0x00))
+for n in range(0, 768, 32):
+    run(given(*[PART['page'][k % 256] for k in range(n, n + 32)]) + c(0x70) + given(0xE0) + c(0x00))
+run(refused(o(), 8) + refused(o(), 3))
+run(c(0x90) + a(0x20) + given(0x4F) + c(0x70) + given(0xE0) + c(0x00) + given(0x4E) + c(0x70) + c(0x00) + given(0x46,
+    0x49) + refused(o(), 8))
+run(c(0x90) + a(0x00) + c(0x70) + c(0x00) + given(0x2C) + c(0x70) + c(0x00) + given(0x68) + c(0x70) + c(0x00) +
+    refused(o(), 8))
+run(GET + c(0x70) + c(0x00) + given(0x40) + c(0x70) + c(0x00) + given(0, 0, 0) + refused(o(), 8))
+kept()
+
+case('polling: 05h in the parameter page')
+run(FF + c(0xEC) + a(0x00))
+for n in (0, 1, 3, 15, 16, 64, 80, 110, 254, 255, 256, 257, 320, 511, 512, 576, 766, 767):
+    run((c(0x70) if n % 3 == 0 else []) + c(0x05) + col(n) + c(0xE0) + given(PART['page'][n % 256]))
+run(c(0x05) + a(0x00) + refused(a(0x03), 4) + c(0x05) + a(0x10) + refused(a(0x00), 4))
+for x in (768, 769, 1023, 1024, 0xFFFF):
+    run(c(0xEC) + a(0x00) + c(0x05) + a(x % 256) + refused(a(x // 256), 4) + refused(c(0xE0), 3))
+    run(c(0xEC) + a(0x00) + c(0x70) + c(0x05) + a(x % 256) + refused(a(x // 256), 4) + refused(o(), 3))
+run(c(0xEC) + a(0x00) + c(0x05) + refused(c(0xE0), 3) + c(0xEC) + a(0x00) + c(0x05) + col(1) + refused(a(0), 3))
+run(c(0xEC) + a(0x00) + c(0x05) + col(1) + refused(o(), 3) + c(0xEC) + a(0x00) + c(0x70) + c(0x00) + refused(c(0x05),
+    3) + c(0x70) + c(0x00) + refused(o(), 3))
+kept()
+
+# "Any other first command .. loses it, since the memory counts as output, and then it is 3."
+case('polling: each first command but 70h, 78h and 00h loses it')
+run(FF + read(1) + f(0))
+registers(*at(0, *page_of(1)))
+for word in (c(0x06) + col(0) + row(0), c(0x60) + row(0)):
+    run(c(0x05) + col(2) + c(0xE0) + given(0x12) + c(0x70) + word + refused(c(0x00), 3) + c(0x70) + given(0xE0) +
+        c(0x00) + refused(o(), 3))
+for word in (c(0x90) + a(0x00), c(0x90) + a(0x20), c(0xEC) + a(0x00), GET):
+    run(c(0x05) + col(2) + c(0xE0) + given(0x12) + c(0x70) + word + refused(c(0x30), 3) + c(0x70) + given(0xE0) +
+        c(0x00) + refused(o(), 3))
+for word in (CLEAR_ON, c(0x05) + col(0) + c(0xE0) + refused(a(0), 3), erase(4) + f(1) + look(0)):
+    run(c(0x05) + col(2) + c(0xE0) + given(0x12) + c(0x70) + word + c(0x70) + given(0xE0) + c(0x00) + refused(o(), 3))
+array(times(32, 64, 0xFF))
+counts('5:00')
+kept()
+
+case('polling: 13 keeps it')
+run(FF + read(5, 3) + f(1) + c(0x70))
+registers(*at(16, *page_of(5)))
+lengths(counts=1)
+run(refused(FF + c(0x00) + o() + f(0) + p(1) + BAD, 13))
+lengths()
+run(c(0x00))
+lengths(array=-1)
+run(refused(a(0) + o() + c(0x30), 13))
+lengths()
+run(given(0x53, 0x54))
+kept()
+
+# What is kept is an output of its own, in the same ranges, and never a status.
+case('13: what is kept behind a status')
+GO_ON = given(0xE0) + c(0x00)
+bad('kept register column', 17)
+bad('kept register column', 0xFFFF)
+fine('kept register column', 16, GO_ON + refused(o(), 8))
+fine('kept register column', 15, GO_ON + given(0xFF) + refused(o(), 8))
+bad('kept register LUN', 2)
+bad('kept register LUN', 0xFFFF)
+fine('kept register LUN', 1, GO_ON + given(0xFF))
+fine('kept register LUN', 1, look(0) + GO_ON + refused(o(), 3))
+bad('kept parameter place', 769)
+fine('kept parameter place', 768, GO_ON + refused(o(), 8))
+fine('kept parameter place', 767, GO_ON + given(PART['page'][255]) + refused(o(), 8))
+fine('kept parameter place', 768, c(0x05) + col(576) + c(0xE0) + given(0x2C))
+bad('kept status LUN', 0)
+bad('kept status LUN', 1)
+bad('kept status LUN', 2)
+bad('kept ID place', 3)
+fine('kept ID place', 2, GO_ON + refused(o(), 8))
+fine('kept ID place', 1, GO_ON + given(0x68))
+bad('kept signature place', 5)
+fine('kept signature place', 4, GO_ON + refused(o(), 8))
+fine('kept signature place', 3, GO_ON + given(0x49))
+bad('kept feature place', 5)
+fine('kept feature place', 4, GO_ON + refused(o(), 8))
+fine('kept feature place', 0, GO_ON + given(0, 0, 0, 0))
+
+# 05h within the page: its whole column is below 768.
+case('13: 05h within the parameter page')
+bad('05h column in the page', 768)
+bad('05h column in the page', 0xFFFF)
+fine('05h column in the page', 767, c(0xE0) + given(PART['page'][255]) + refused(o(), 8))
+fine('05h column in the page', 16, c(0xE0) + given(PART['page'][16]))
+
+# ---------------------------------------------------------------------------------------------------------------------
+# A4, page order. "If feature bit 2 is 0, a 10h for a page lower than some page of that block with count above 0 does not
+# proceed and gives FAIL, as a full count does. The same page again is allowed up to its count." No refusal: 10h is
+# accepted, and the LUN works. Parts A, E, H and I have the bit set, so that their pages go in any order; the others
+# have it clear.
+#
+# Part U: 16+0 bytes, 4 pages, 2 blocks, 2 LUNs, bit 2 clear. Rows 0 to 3 and 4 to 7 are LUN 0's blocks, 8 to 11 and 12 to
+# 15 LUN 1's, and row r is the array's page r. Lent counts: row 6 has had one program of two, row 11 both. The block of
+# rows 12 to 15 is bad.
+U = ('U: 16+0, 4 pages, 2 blocks, 2 LUNs, pages upward', 16, 0, 4, 2, 2, 2, 0x0102, 0x005C, {6: 1, 11: 2}, {3: 1})
+part(*U)
+E0, E1 = byte(0xE0), byte(0xE1)
+
+
+def order(name, prefix, seventy, lun=0):
+    """What the status is after a program, and while it works."""
+    idle('%s, working' % name, FF + prefix, seventy=byte(0x80), works=(lun,))
+    idle(name, FF + prefix + f(lun), seventy=seventy)
+
+
+seq('U: 80h of a page below a written one', FF + c(0x80) + col(0x0E) + row(5) + i(0x55), PUT, data=ok)
+seq('U: 80h of a page below a written one, line low', FF + p(0) + c(0x80) + col(0x0E) + row(5), {0x10: no(7), 0x85: ok}, data=ok)
+seq('U: 80h of a page below a written one, at the end', FF + c(0x80) + col(0x0F) + row(5) + i(0x55), PUT, data=no(8))
+# Counts that were lent are counts.
+order('U: page 0, page 2 written', program(4, 0, 0x00), E1)
+order('U: page 1, page 2 written', program(5, 0, 0x00), E1)
+order('U: page 2 again', program(6, 0, 0x00), E0)
+order('U: page 3, page 2 written', program(7, 0, 0x00), E0)
+order('U: page 0, page 3 full', program(8, 0, 0x00), E1, 1)
+order('U: page 2, page 3 full', program(10, 0, 0x00), E1, 1)
+order('U: page 3, full', program(11, 0, 0x00), E1, 1)
+order('U: page 0 of a bad block', program(12, 0, 0x00), E1, 1)
+order('U: page 0, with no data', program(4, 0), E1)
+# "Of that block": neither the next block's pages nor those of the block before, nor another LUN's.
+order('U: page 3 of a block, the next one written', program(3, 0, 0x00), E0)
+order('U: page 0 of a block, the next one written', program(0, 0, 0x00), E0)
+order('U: page 0, the block of the other LUN written', program(8, 0) + f(1) + program(0, 0), E0)
+# Upward, with pages left out, and back.
+order('U: pages 0, 1', program(0, 0) + f(0) + program(1, 0), E0)
+order('U: pages 0, 2', program(0, 0) + f(0) + program(2, 0), E0)
+order('U: pages 0, 3', program(0, 0) + f(0) + program(3, 0), E0)
+order('U: pages 0, 2, 1', program(0, 0) + f(0) + program(2, 0) + f(0) + program(1, 0), E1)
+order('U: pages 0, 2, 0', program(0, 0) + f(0) + program(2, 0) + f(0) + program(0, 0), E1)
+order('U: pages 0, 2, 2', program(0, 0) + f(0) + program(2, 0) + f(0) + program(2, 0), E0)
+order('U: pages 0, 2, 2, 2', program(0, 0) + f(0) + program(2, 0) + f(0) + program(2, 0) + f(0) + program(2, 0), E1)
+order('U: pages 0, 2, 1, 3', program(0, 0) + f(0) + program(2, 0) + f(0) + program(1, 0) + f(0) + program(3, 0), E0)
+order('U: pages 3, 0', program(3, 0) + f(0) + program(0, 0), E1)
+# A program that did not proceed, and one that was given up or refused 7, leave the counts as they are.
+order('U: page 3 of a bad block, then page 0 of the block before', program(15, 0) + f(1) + program(9, 0), E1, 1)
+order('U: page 1 given up, page 0', c(0x80) + col(0) + row(1) + i(0) + refused(c(0x30), 3) + program(0, 0), E0)
+order('U: page 1 refused 7, page 0', p(0) + c(0x80) + col(0) + row(1) + refused(c(0x10), 7) + p(1) + program(0, 0), E0)
+# D0h sets the block's counts to 0; the other block's stay.
+order('U: erased, then page 0', erase(5) + f(0) + program(4, 0), E0)
+order('U: the other block erased, then page 0', erase(0) + f(0) + program(4, 0), E1)
+order('U: a page written after an erase, and one below', erase(4) + f(0) + program(5, 0) + f(0) + program(4, 0), E1)
+# FAIL is told as ever: when ready, by 70h and 78h, afresh by each work, 0 after FFh; the counts stay at FFh.
+idle('U: out of order, status open', FF + program(5, 0) + c(0x70), seventy=byte(0x80), out=byte(0x80), then=byte(0x80), works=(0,), finish={0: E1})
+idle('U: out of order, failed, status open', FF + program(5, 0) + f(0) + look(0), seventy=E1, out=E1, then=E1, protect=FAILED)
+idle('U: out of order, line low', FF + program(5, 0) + f(0) + p(0), seventy=byte(0x61))
+idle('U: out of order, then read', FF + program(5, 0, 0x00) + f(0) + read(5) + f(0), out=byte(0x50), then=byte(0x51))
+idle('U: out of order, then FFh', FF + program(5, 0) + FF)
+idle('U: out of order, FFh, and again', FF + program(5, 0) + FF + program(5, 0) + f(0), seventy=E1)
+idle('U: out of order, the other LUN selected', FF + program(5, 0) + f(0) + look(8), out=E0, then=E0, protect=UP)
+# "A 10h" is a copyback's too; it closes the copyback, as one that fails on a bad block does.
+order('U: copyback, page 1, page 2 written', copyback(6) + f(0) + copied(5, 0), E1)
+order('U: copyback, page 0, a move and data', copyback(0) + f(0) + c(0x85) + col(0) + row(4) + c(0x85) + col(3) + i(0) + c(0x10), E1)
+order('U: copyback, page 2 again', copyback(6) + f(0) + copied(6, 0), E0)
+order('U: copyback, page 3, page 2 written', copyback(6) + f(0) + copied(7, 0), E0)
+order('U: copyback, to the other block', copyback(6) + f(0) + copied(0, 0), E0)
+copies('U: closed by a 10h out of order', FF + copyback(6) + f(0) + copied(5, 0) + f(0), no(14), 5)
+copies('U: open, page 1, page 2 written', FF + copyback(6) + f(0), ok, 5)
+
+# Part V: the same with bit 2 set, "any order".
+V = ('V: as U, pages in any order', 16, 0, 4, 2, 2, 2, 0x0106, 0x005C, {6: 1, 11: 2}, {3: 1})
+part(*V)
+order('V: page 0, page 2 written', program(4, 0, 0x00), E0)
+order('V: page 1, page 2 written', program(5, 0, 0x00), E0)
+order('V: page 2, page 3 full', program(10, 0, 0x00), E0, 1)
+order('V: page 3, full', program(11, 0, 0x00), E1, 1)
+order('V: page 0 of a bad block', program(12, 0, 0x00), E1, 1)
+order('V: pages 3, 1, 0, 2', program(3, 0) + f(0) + program(1, 0) + f(0) + program(0, 0) + f(0) + program(2, 0), E0)
+order('V: pages 3, 1, 1, 1', program(3, 0) + f(0) + program(1, 0) + f(0) + program(1, 0) + f(0) + program(1, 0), E1)
+order('V: copyback, page 1, page 2 written', copyback(6) + f(0) + copied(5, 0), E0)
+
+# ---------------------------------------------------------------------------------------------------------------------
+# A4, on U: "does not proceed": array and count stay. The register stays as data in left it.
+part(*U)
+case('page order: a page below a written one stays, and FAIL')
+run(FF + program(3, 0, 0x0F) + f(0) + c(0x70) + given(0xE0))
+array(*at(48, 0x30 & 0x0F))
+counts('3:01')
+registers(times(32, 0, 0xFF), *at(0, 0x0F))
+kept()
+run(program(1, 2, 0x00) + c(0x70) + given(0x80) + f(0) + given(0xE1))
+registers(*at(0, 0xFF, 0xFF, 0x00))
+kept()
+run(program(0, 0) + f(0) + c(0x70) + given(0xE1) + program(2, 0, *[0x00] * 16) + f(0) + c(0x70) + given(0xE1))
+registers(times(16, 0, 0x00))
+kept()
+# The same page again, up to its count; page 3 of the block below has no page above it in its block.
+run(program(3, 1, 0x00) + f(0) + c(0x70) + given(0xE0))
+array(*at(49, 0x00))
+counts('3:02')
+registers(times(16, 0, 0xFF), *at(1, 0x00))
+kept()
+run(program(3, 2, 0x00) + f(0) + c(0x70) + given(0xE1))
+registers(*at(1, 0xFF, 0x00))
+kept()
+# The next block's page 2 was lent with a count of 1.
+run(program(5, 0, 0x00) + f(0) + c(0x70) + given(0xE1) + program(6, 0, 0x00) + f(0) + c(0x70) + given(0xE0))
+array(*at(96, 0x00))
+counts('6:02')
+registers(times(16, 0, 0xFF), *at(0, 0x00))
+kept()
+# An erase makes its block new, and no other.
+run(erase(2) + f(0) + program(1, 0, 0x12) + f(0) + c(0x70) + given(0xE0) + program(0, 0, 0x00) + f(0) + c(0x70) + given(0xE1))
+array(times(64, 0, 0xFF), *at(16, 0x12))
+counts('3:00', '1:01')
+kept()
+run(program(4, 0, 0x00) + f(0) + c(0x70) + given(0xE1))
+kept()
+
+case('page order: upward, pages left out, two LUNs')
+run(FF + CLEAR_ON + erase(8) + f(1) + program(8, 0, 0x00) + program(0, 0, 0x01) + f(0, 1) + program(10, 0, 0x02) + program(2, 0, 0x03))
+array(times(64, 128, 0xFF), *at(0, 0x00 & 0x01), *at(32, 0x20 & 0x03), *at(128, 0x00), *at(160, 0x02))
+counts('B:00', '0:01', '2:01', '8:01', 'A:01')
+registers(times(32, 0, 0xFF), *at(0, 0x03), *at(16, 0x02))
+kept()
+run(look(8) + given(0x80) + f(1) + given(0xE0) + f(0) + look(0) + given(0xE0))
+run(program(9, 0, 0x00) + program(3, 0, 0x00) + f(1) + look(8) + given(0xE1) + f(0) + look(0) + given(0xE0))
+array(*at(48, 0x00))
+counts('3:01')
+registers(times(32, 0, 0xFF), *at(0, 0x00), *at(16, 0x00))
+kept()
+
+case('page order: a copyback downward stays, gives FAIL and is closed')
+run(FF + copyback(6) + f(0) + copied(5, 1, 0x00) + c(0x70) + given(0x80) + f(0) + given(0xE1))
+registers(times(16, 16, 0xFF), *at(0, *page_of(6)), *at(1, 0x00))
+kept()
+run(c(0x85) + col(0) + a(7, 0) + refused(a(0), 14))
+kept()
+run(copyback(6) + f(0) + copied(7, 1, 0x00) + f(0) + c(0x70) + given(0xE0))
+array(*at(112, *[x & y for x, y in zip(page_of(7), [0x60, 0x00, *range(0x62, 0x70)])]))
+counts('7:01')
+kept()
+run(copyback(7) + f(0) + copied(6, 0) + f(0) + c(0x70) + given(0xE1))
+registers(*at(0, *[x & y for x, y in zip(page_of(7), [0x60, 0x00, *range(0x62, 0x70)])]))
+kept()
+
+# The word in the record is looked at, and at each 10h.
+case('page order: the feature word of the record')
+fine('features', 0x0102, program(5, 0, 0x00) + f(0) + c(0x70) + given(0xE1))
+fine('features', 0x0106, program(5, 0, 0x00) + f(0) + c(0x70) + given(0xE0))
+fine('features', 0xFFFA, program(5, 0, 0x00) + f(0) + c(0x70) + given(0xE1))
+fine('features', 0x0006, program(5, 0, 0x00) + f(0) + c(0x70) + given(0xE0))
+fine('80h row', 5, c(0x10) + f(0) + c(0x70) + given(0xE1))
+fine('85h row', 5, a(0) + i(0) + c(0x10) + f(0) + c(0x70) + given(0xE1))
+fine('copyback row', 5, c(0x10) + f(0) + c(0x70) + given(0xE1))
+fine('copyback row', 7, c(0x10) + f(0) + c(0x70) + given(0xE0))
+
+part(*V)
+case('page order: any order, where feature bit 2 is set')
+run(FF + program(3, 0, 0x0F) + f(0) + program(1, 2, 0x00) + c(0x70) + given(0x80) + f(0) + given(0xE0))
+array(*at(48, 0x30 & 0x0F), *at(18, 0x00))
+counts('3:01', '1:01')
+registers(times(32, 0, 0xFF), *at(2, 0x00))
+kept()
+run(copyback(6) + f(0) + copied(4, 0) + f(0) + c(0x70) + given(0xE0))
+array(*at(64, *[x & y for x, y in zip(page_of(4), page_of(6))]))
+counts('4:01')
+registers(*at(0, *page_of(6)))
+kept()
+
+# ---------------------------------------------------------------------------------------------------------------------
 # Wrong on purpose, so that the program shows that it compares: eleven expectations here are wrong, of each kind at
 # least one.
 line('W', ['expectations that are wrong'])
@@ -1499,13 +1981,19 @@ line('D', ['00', '33'])
 line('E', ['02', '03'])
 line('Y', ['4:10'])
 
-text = '\n'.join(OUT) + '\n'
 ROOT = os.path.dirname(os.path.dirname(os.path.dirname(os.path.abspath(__file__))))
-path = os.path.join(ROOT, 'crates', 'test_table', 'data', 'table')
-if sys.argv[1:] == ['--check']:
-    with open(path) as stored:
-        sys.exit(0 if stored.read() == text else 'crates/test_table/data/table is not what this script writes')
-with open(path, 'w') as out:
-    out.write(text)
 each = len(COMMANDS) + len(UNKNOWN) + len(ADDRESSES) + len(DATA) + 1 + len(FINISHES) + 2 + len(BAD)
-print(len(text), 'bytes', len(OUT), 'lines,', len(STATES), 'states,', len(STATES) * each, 'cells', file=sys.stderr)
+ends = [start for _, start in FILES[1:]] + [len(OUT)]
+for (name, start), end in zip(FILES, ends):
+    text = '\n'.join(OUT[start:end]) + '\n'
+    assert len(text) <= 524288, 'the program can hold no such file'
+    path = os.path.join(ROOT, 'crates', 'test_table', 'data', name)
+    if sys.argv[1:] == ['--check']:
+        with open(path) as stored:
+            if stored.read() != text:
+                sys.exit('crates/test_table/data/%s is not what this script writes' % name)
+        continue
+    with open(path, 'w') as out:
+        out.write(text)
+    print(name, len(text), 'bytes', end - start, 'lines', file=sys.stderr)
+print(len(STATES), 'states,', len(STATES) * each, 'cells', file=sys.stderr)

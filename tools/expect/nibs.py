@@ -1,6 +1,6 @@
 #!/usr/bin/env python3
 """The files of crates/test_nib/data, all but `script`, `job_script` and `look`'s words: the folders and pages, the scripts'
-traces, a worked sequence's, and a long trace with its text, by a reader and a writer of their own.
+traces, those of worked sequences, and a long trace with its text, by a reader and a writer of their own.
 
     python3 tools/expect/nibs.py            # writes them anew
     python3 tools/expect/nibs.py --check    # says whether they are so
@@ -139,6 +139,7 @@ def files():
     yield 'cut_off', read('c 60  a 01 00 00  c d0  f 0  c 80  a 00 00 00')
     yield 'nothing', b''
     yield 'copyback', worked('A1', 1)
+    yield 'polling', worked('A2', 1)
     yield 'many', bytes(x for r in many() for x in r) + b'\x03'
     yield 'many_text', (write(many()) + 'x 03\n').encode()
 

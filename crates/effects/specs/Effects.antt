@@ -7,10 +7,10 @@ use lib.ListN.{set}
 use lib.Dec.{eqb}
 use Rattle.target.specs.Pick.{pick}
 use Rattle.target.specs.Address.{columnFrom, rowFrom, lunOf}
-use Rattle.target.specs.Commands.{takesColumn, takesRow, cyclesOf, thenOf, clearsRegister, closesCopyback, needsCopyback, firstOf, secondRow}
+use Rattle.target.specs.Commands.{takesColumn, takesRow, byteOf, cyclesOf, thenOf, givesStatus, inPage, clearsRegister, closesCopyback, needsCopyback, firstOf, secondRow}
 use Rattle.target.specs.Views.{completed, taking, ending}
 use Rattle.target.specs.Luns.{lunBegun, lunFinished, lunClosed, lunAt, allReady}
-use Rattle.target.specs.Place.{isOpen}
+use Rattle.target.specs.Place.{isOpen, isBare, putOut, firstHere, showsStatus, isRegisterOf}
 use Rattle.target.specs.Events.{isBus, isReset, badRecord}
 use Rattle.target.specs.declared.Column.{Column}
 use Rattle.target.specs.declared.Row.{Row}
@@ -70,8 +70,8 @@ endedSequence (ender.By k) =
     pick (isMove (secondRow (k .second) .act)) (Moving (record { first = k .first; row = k .row; got = 0; low = 0 })) Idle
 
 -- the sequence after a command
-abbrev pub commanded : Sequence → ℕ → Sequence
-commanded s v = pick (isOpen s) (endedSequence (ending s v)) (opened (firstOf v))
+abbrev pub commanded : Decoder → ℕ → Sequence
+commanded d v = pick (isOpen (d .sequence)) (endedSequence (ending (d .sequence) v)) (opened (firstHere d v))
 
 -- after its last address cycle a command waits for its second command, for data or for four bytes, or it has ended
 abbrev pub followed : Then → First → Column → Row → Sequence
@@ -115,13 +115,15 @@ filled s (taker.Feature k) v =
     (pick (eqb (k .got) 2) (Setting (record { got = 3; value = k .value }))
     Idle))
 
-unfoldable pub sequenceAfter : Sequence → Event → Sequence
-sequenceAfter s e =
+-- data out closes a bare 00h
+unfoldable pub sequenceAfter : Decoder → Event → Sequence
+sequenceAfter d e =
     pick (isReset e) Idle
-    (pick (eqb (e .kind) 0) (commanded s (e .value))
-    (pick (eqb (e .kind) 1) (addressed s (e .value))
-    (pick (eqb (e .kind) 2) (filled s (taking s) (e .value))
-    s)))
+    (pick (eqb (e .kind) 0) (commanded d (e .value))
+    (pick (eqb (e .kind) 1) (addressed (d .sequence) (e .value))
+    (pick (eqb (e .kind) 2) (filled (d .sequence) (taking (d .sequence)) (e .value))
+    (pick (eqb (e .kind) 3 && isBare (d .sequence)) Idle
+    (d .sequence)))))
 
 -- The output.
 
@@ -129,10 +131,14 @@ sequenceAfter s e =
 abbrev pub endedLun : Geometry → ℕ → Ended → ℕ
 endedLun g selected k = pick (takesRow (k .first)) (lunOf g (k .row)) selected
 
+-- and where 05h moves within the parameter page, the page from the column on
+abbrev pub endedPlace : Geometry → ℕ → Ended → Output
+endedPlace g selected k =
+    pick (inPage (k .first)) (output.Parameters (k .column .0)) (output.Register (endedLun g selected k) (k .column))
+
 abbrev pub endedOutput : Geometry → ℕ → Ender → Output
 endedOutput g selected ender.Nothing = output.Nothing
-endedOutput g selected (ender.By k) =
-    pick (secondRow (k .second) .shows) (output.Register (endedLun g selected k) (k .column)) output.Nothing
+endedOutput g selected (ender.By k) = pick (secondRow (k .second) .shows) (endedPlace g selected k) output.Nothing
 
 -- what comes out after a command's last address cycle: a LUN's status; 90h with 00h the IDs, with 20h 4F 4E 46 49; ECh the page;
 -- EEh four bytes
@@ -176,8 +182,44 @@ outputAfter g selected d e =
     pick (isReset e) output.Nothing
     (pick (eqb (e .kind) 0) (commandOutput g selected (d .sequence) (e .value))
     (pick (eqb (e .kind) 1) (addressedOutput g (completed (d .sequence) (e .value)) (d .output))
-    (pick (eqb (e .kind) 3) (advanced (d .output))
+    (pick (eqb (e .kind) 3) (advanced (putOut d))
     (d .output))))
+
+-- The memory (document 02, A2).
+
+-- what a status keeps: the output that was open before; a second status hands on what the first kept
+abbrev pub remembered : Decoder → Output
+remembered d = pick (showsStatus (d .output)) (d .kept) (d .output)
+
+-- 70h and 78h keep it; 00h goes on from it, if a status came before; any other first command loses it
+abbrev pub firstKept : Decoder → FirstFound → Output
+firstKept d first.Nothing = output.Nothing
+firstKept d (first.Found f) =
+    pick (givesStatus f) (remembered d) (pick (eqb (byteOf f) 0x00 && showsStatus (d .output)) (d .kept) output.Nothing)
+
+abbrev pub commandKept : Decoder → ℕ → Output
+commandKept d v = pick (isOpen (d .sequence)) (d .kept) (firstKept d (firstOf v))
+
+-- of what 78h holds its row keeps only a page register of the LUN that it names
+abbrev pub rowKept : Geometry → Given → Output → Output
+rowKept g given.Nothing o = o
+rowKept g (given.Column k) o = o
+rowKept g (given.Row k) o =
+    pick (givesStatus (k .first) && not (isRegisterOf (lunOf g (k .row)) o)) output.Nothing o
+rowKept g (given.Single k) o = o
+
+-- an address after 00h makes it a plain read
+abbrev pub addressedKept : Geometry → Decoder → ℕ → Output
+addressedKept g d v = pick (isBare (d .sequence)) output.Nothing (rowKept g (completed (d .sequence) v) (d .kept))
+
+-- data out after a bare 00h makes the memory plain output again
+unfoldable pub keptAfter : Geometry → Decoder → Event → Output
+keptAfter g d e =
+    pick (isReset e) output.Nothing
+    (pick (eqb (e .kind) 0) (commandKept d (e .value))
+    (pick (eqb (e .kind) 1) (addressedKept g d (e .value))
+    (pick (eqb (e .kind) 3 && isBare (d .sequence)) output.Nothing
+    (d .kept))))
 
 -- The LUNs.
 
@@ -257,16 +299,17 @@ targetAfter t e found = record {
   selected = selectedAfter (t .geometry) (t .selected) (t .decoder .sequence) e;
   luns = lunsAfter (t .geometry) (t .luns) (t .decoder .sequence) e found;
   decoder = record {
-    sequence = sequenceAfter (t .decoder .sequence) e;
+    sequence = sequenceAfter (t .decoder) e;
     output = outputAfter (t .geometry) (t .selected) (t .decoder) e;
+    kept = keptAfter (t .geometry) (t .decoder) e;
   };
 }
 
--- no sequence open, no output
+-- no sequence open, no output, and none kept
 abbrev pub dropped : Decoder
-dropped = record { sequence = Idle; output = output.Nothing }
+dropped = record { sequence = Idle; output = output.Nothing; kept = output.Nothing }
 
--- the record after a refusal: a bus cycle (12 apart) drops sequence and output, a bench event or a bad record nothing
+-- the record after a refusal: a bus cycle (12 apart) drops sequence, output and memory, a bench event or a bad record nothing
 unfoldable pub targetRefused : Target → Event → Target
 targetRefused t e = record {
   powered = t .powered;

@@ -1,9 +1,11 @@
 // The record after an event, and the work that an accepted event asks of the lent buffers. All by value. Each function goes by the
 // event's kind first, so that an event computes its own case alone.
+pub mod kept;
 pub mod outputs;
 pub mod sequences;
 pub mod works;
 
+use kept::kept_after;
 use outputs::output_after;
 use sequences::sequence_after;
 use target::Decoder;
@@ -42,6 +44,7 @@ ghost use mathlib.Core.Path.{_≡_};
 ghost use Prim.Native.Nat.{_<_};
 ghost use lib.ListN.{set};
 ghost use Rattle.target.specs.Views.{taking};
+ghost use Rattle.target.specs.Place.{putOut};
 ghost use Rattle.effects.specs.Effects.{begun, endCloses, endedLuns, addressedLuns, finished, lunsAfter, rowSelects, selectedAfter, clearSet, clearAfter, highAfter, targetAfter, targetRefused, placeIn, placeOut};
 
 // One LUN's record replaced, if there is such a LUN.
@@ -188,17 +191,22 @@ pub fn high_after(high: bool, e: Event) -> bool
 
 // The record after an accepted event.
 pub fn target_after(t: Target, e: Event, found: Findings) -> Target
-    requires { ⌜ (placeIn (taking (t .decoder .sequence)) < 65536) × (placeOut (t .decoder .output) < 65536) ⌝ }
+    requires { ⌜ (placeIn (taking (t .decoder .sequence)) < 65536) × (placeOut (putOut (t .decoder)) < 65536) ⌝ }
     ensures { λ r. ⌜ r ≡ targetAfter t e found ⌝ }
 {
     let g = t.geometry;
     let luns = t.luns;
     let d = t.decoder;
     let s = d.sequence;
-    let sequence = sequence_after(s, e);
+    let sequence = sequence_after(d, e);
     let output = output_after(g, t.selected, d, e);
+    let kept = kept_after(g, d, e);
     let luns = luns_after(g, luns, s, e, found);
-    let decoder = Decoder { sequence, output };
+    let decoder = Decoder {
+        sequence,
+        output,
+        kept,
+    };
     Target {
         high: high_after(t.high, e),
         clear: clear_after(t.clear, s, e),
@@ -210,7 +218,7 @@ pub fn target_after(t: Target, e: Event, found: Findings) -> Target
     }
 }
 
-// The record after a refusal: a bus cycle drops sequence and output, a bench event or a bad record nothing.
+// The record after a refusal: a bus cycle drops sequence, output and memory, a bench event or a bad record nothing.
 pub fn target_refused(t: Target, e: Event) -> Target
     ensures { λ r. ⌜ r ≡ targetRefused t e ⌝ }
 {
@@ -218,6 +226,7 @@ pub fn target_refused(t: Target, e: Event) -> Target
     let none = Decoder {
         sequence: Sequence::Idle,
         output: Output::Nothing,
+        kept: Output::Nothing,
     };
     let decoder = pick_decoder(is_bus(e) & !bad_record(e), none, old);
     Target { decoder, ..t }

@@ -10,6 +10,7 @@ use target::commands::FirstFound;
 use target::commands::Then;
 use target::commands::cycles_of;
 use target::commands::first_of;
+use target::commands::in_page;
 use target::commands::second_row;
 use target::commands::takes_row;
 use target::commands::then_of;
@@ -17,6 +18,7 @@ use target::events::is_reset;
 use target::picks::pick_number;
 use target::picks::pick_output;
 use target::place::is_open;
+use target::place::put_out;
 use target::views::Ended;
 use target::views::Ender;
 use target::views::Given;
@@ -24,7 +26,8 @@ use target::views::completed;
 use target::views::ending;
 ghost use mathlib.Core.Path.{_≡_};
 ghost use Prim.Native.Nat.{_<_};
-ghost use Rattle.effects.specs.Effects.{endedLun, endedOutput, shown, firstOutput, commandOutput, addressedOutput, advanced, outputAfter, placeOut};
+ghost use Rattle.target.specs.Place.{putOut};
+ghost use Rattle.effects.specs.Effects.{endedLun, endedPlace, endedOutput, shown, firstOutput, commandOutput, addressedOutput, advanced, outputAfter, placeOut};
 
 // The LUN whose register a second command puts out.
 pub fn ended_lun(g: Geometry, selected: usize, k: Ended) -> usize
@@ -35,6 +38,20 @@ pub fn ended_lun(g: Geometry, selected: usize, k: Ended) -> usize
     pick_number(takes_row(f), lun_of(g, r), selected)
 }
 
+// The register or the parameter page, from the column on.
+pub fn ended_place(g: Geometry, selected: usize, k: Ended) -> Output
+    ensures { λ r. ⌜ r ≡ endedPlace g selected k ⌝ }
+{
+    let f = k.first;
+    let column = k.column;
+    let register = Output::Register {
+        lun: ended_lun(g, selected, k),
+        column,
+    };
+    let page = Output::Parameters { at: column.0 };
+    pick_output(in_page(f), page, register)
+}
+
 pub fn ended_output(g: Geometry, selected: usize, k: Ender) -> Output
     ensures { λ r. ⌜ r ≡ endedOutput g selected k ⌝ }
 {
@@ -42,13 +59,8 @@ pub fn ended_output(g: Geometry, selected: usize, k: Ender) -> Output
         Ender::Nothing => Output::Nothing,
         Ender::By(k) => {
             let second = k.second;
-            let column = k.column;
             let row = second_row(second);
-            let register = Output::Register {
-                lun: ended_lun(g, selected, k),
-                column,
-            };
-            pick_output(row.shows, register, Output::Nothing)
+            pick_output(row.shows, ended_place(g, selected, k), Output::Nothing)
         }
     }
 }
@@ -129,7 +141,7 @@ pub fn advanced(o: Output) -> Output
 }
 
 pub fn output_after(g: Geometry, selected: usize, d: Decoder, e: Event) -> Output
-    requires { ⌜ placeOut (d .output) < 65536 ⌝ }
+    requires { ⌜ placeOut (putOut d) < 65536 ⌝ }
     ensures { λ r. ⌜ r ≡ outputAfter g selected d e ⌝ }
 {
     let s = d.sequence;
@@ -145,7 +157,7 @@ pub fn output_after(g: Geometry, selected: usize, d: Decoder, e: Event) -> Outpu
         return addressed_output(g, completed(s, v), o);
     }
     if e.kind == 3 {
-        return advanced(o);
+        return advanced(put_out(d));
     }
     o
 }

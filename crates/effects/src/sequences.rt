@@ -1,6 +1,7 @@
 // The sequence after an event.
 use target::Column;
 use target::ColumnCycles;
+use target::Decoder;
 use target::Event;
 use target::FeatureBytes;
 use target::Fill;
@@ -16,13 +17,14 @@ use target::commands::Act;
 use target::commands::FirstFound;
 use target::commands::Then;
 use target::commands::cycles_of;
-use target::commands::first_of;
 use target::commands::second_row;
 use target::commands::takes_column;
 use target::commands::takes_row;
 use target::commands::then_of;
 use target::events::is_reset;
 use target::picks::pick_sequence;
+use target::place::first_here;
+use target::place::is_bare;
 use target::place::is_open;
 use target::views::Ender;
 use target::views::Taker;
@@ -112,13 +114,14 @@ pub fn ended_sequence(k: Ender) -> Sequence
     }
 }
 
-pub fn commanded(s: Sequence, v: u8) -> Sequence
-    ensures { λ r. ⌜ r ≡ commanded s v ⌝ }
+pub fn commanded(d: Decoder, v: u8) -> Sequence
+    ensures { λ r. ⌜ r ≡ commanded d v ⌝ }
 {
+    let s = d.sequence;
     if is_open(s) {
         return ended_sequence(ending(s, v));
     }
-    opened(first_of(v))
+    opened(first_here(d, v))
 }
 
 pub fn followed(n: Then, f: First, c: Column, r: Row) -> Sequence
@@ -279,22 +282,26 @@ pub fn filled(s: Sequence, k: Taker, v: u8) -> Sequence
     }
 }
 
-pub fn sequence_after(s: Sequence, e: Event) -> Sequence
-    requires { ⌜ placeIn (taking s) < 65536 ⌝ }
-    ensures { λ r. ⌜ r ≡ sequenceAfter s e ⌝ }
+pub fn sequence_after(d: Decoder, e: Event) -> Sequence
+    requires { ⌜ placeIn (taking (d .sequence)) < 65536 ⌝ }
+    ensures { λ r. ⌜ r ≡ sequenceAfter d e ⌝ }
 {
+    let s = d.sequence;
     let v = e.value;
     if is_reset(e) {
         return Sequence::Idle;
     }
     if e.kind == 0 {
-        return commanded(s, v);
+        return commanded(d, v);
     }
     if e.kind == 1 {
         return addressed(s, v);
     }
     if e.kind == 2 {
         return filled(s, taking(s), v);
+    }
+    if (e.kind == 3) & is_bare(s) {
+        return Sequence::Idle;
     }
     s
 }

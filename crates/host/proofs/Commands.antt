@@ -9,7 +9,7 @@ use Rattle.target.specs.declared.First.{First}
 use Rattle.target.specs.declared.First.the-variants as first
 use Rattle.host.specs.Numbers.{firstAt}
 
-pub place-small : (f : First) → placeOf f ≤ 11
+pub place-small : (f : First) → placeOf f ≤ 12
 place-small first.Read = omega arith
 place-small first.ChangeColumn = omega arith
 place-small first.ChangeColumnEnhanced = omega arith
@@ -22,6 +22,7 @@ place-small first.ParameterPage = omega arith
 place-small first.GetFeatures = omega arith
 place-small first.SetFeatures = omega arith
 place-small first.CopybackProgram = omega arith
+place-small first.ChangeColumnInPage = omega arith
 
-pub past-list : (n : ℕ) → 12 ≤ n → first.Read ≡ firstAt n
+pub past-list : (n : ℕ) → 13 ≤ n → first.Read ≡ firstAt n
 past-list n h = sym (List·getD-eq-default firstCommands first.Read h)

@@ -1,6 +1,6 @@
 -- Bounds of the numbers that go out: where the unread rest lies is one number that can be taken apart again.
 -- Assumes nothing.
-use mathlib.Core.Path.{_≡_}
+use mathlib.Core.Path.{_≡_, refl}
 use mathlib.Core.Bool.{Bool, true, _&&_, _||_}
 use mathlib.Core.List.{List}
 use Prim.Native.Nat.{ℕ, _+_, _*_, _%_, _≤_, _<_}
@@ -19,8 +19,9 @@ use Rattle.target.proofs.Both.{both}
 use Rattle.target.proofs.Limits.{Limits, limits, registers-all}
 use Rattle.step.specs.Usable.{recordSound, outputSound}
 use Rattle.step.proofs.Sound.{register-place, sound}
+use Rattle.target.specs.Place.{isBare}
 use Rattle.thm_kept.proofs.Choice.{by-pick}
-use Rattle.unread.specs.Rest.{empty, readable, unreadIn, unreadOf}
+use Rattle.unread.specs.Rest.{empty, present, readable, unreadIn, unreadOf}
 use Rattle.unread.specs.declared.Unread.{Unread}
 use Rattle.unread.specs.declared.Source.{Source}
 use Rattle.unread.specs.declared.Source.the-variants as source
@@ -52,8 +53,10 @@ small-in g luns (output.Feature at) m h = (omega arith, omega arith)
 pub small-rest : (t : Target) (params registers : ℕ) → Small (unreadOf t params registers)
 unfolding unreadOf readable
 small-rest t params registers =
-    by-pick Small (readable t params registers) (unreadIn (t .geometry) (t .luns) (t .decoder .output)) empty
-    (λ h. let k = sound t (both (recordSound t) (eqb params 256 && eqb registers (t .geometry .luns * pageSize (t .geometry))) h .0) in small-in (t .geometry) (t .luns) (t .decoder .output) (limits (t .geometry) (k .limited)) (k .output))
+    by-pick Small (readable t params registers) (unreadIn (t .geometry) (t .luns) (present (t .decoder))) empty
+    (λ h. let k = sound t (both (recordSound t) (eqb params 256 && eqb registers (t .geometry .luns * pageSize (t .geometry))) h .0) in
+    small-in (t .geometry) (t .luns) (present (t .decoder)) (limits (t .geometry) (k .limited))
+    (by-pick (λ (o : Output). outputSound (t .geometry) o ≡ true) (isBare (t .decoder .sequence)) output.Nothing (t .decoder .output) (λ _. refl) (λ _. k .output)))
     (λ _. (omega arith, omega arith))
 
 -- so the number is the buffer, the start and the length side by side

@@ -36,7 +36,7 @@ use Rattle.host.specs.declared.numbers.Cycles.{Cycles}
 use Rattle.host.specs.declared.numbers.Place.{Place}
 use Rattle.host.specs.declared.Image.{Image}
 use Rattle.host.specs.Numbers.{markByte, isSet, firstAt, sequenceOf, cyclesOf, outputOf, outputPlace, lunsOf, workingOf, failOf, copybackOf, sameCycles, samePlace, fourMarks}
-use Rattle.host.specs.Image.{cyclesIn, placeIn, unpacked, imageFrom, packed, marksGood, good, taken, putBack, replyNumber, HostEvent, evented, eventOn}
+use Rattle.host.specs.Image.{cyclesIn, placeIn, keptIn, unpacked, imageFrom, packed, marksGood, good, taken, putBack, replyNumber, HostEvent, evented, eventOn}
 
 mark-back : (b : Bool) → isSet (markByte b) ≡ b
 mark-back true = refl
@@ -59,6 +59,7 @@ first-back first.ParameterPage = refl
 first-back first.GetFeatures = refl
 first-back first.SetFeatures = refl
 first-back first.CopybackProgram = refl
+first-back first.ChangeColumnInPage = refl
 
 sequence-back : (s : Sequence) → sequenceOf (cyclesOf s) ≡ s
 sequence-back Idle = refl
@@ -100,7 +101,7 @@ luns-back ls h =
 
 -- what is packed unpacks to itself
 pub packed-back : (t : Target) → length (t .luns) ≡ 4 → unpacked (packed t) ≡ t
-unfolding unpacked packed cyclesIn placeIn
+unfolding unpacked packed cyclesIn placeIn keptIn
 packed-back t h = λ j. record {
   powered = mark-back (t .powered) j;
   geometry = t .geometry;
@@ -111,7 +112,7 @@ packed-back t h = λ j. record {
   seen = mark-back (t .seen) j;
   selected = t .selected;
   luns = luns-back (t .luns) h j;
-  decoder = record { sequence = sequence-back (t .decoder .sequence) j; output = output-back (t .decoder .output) j };
+  decoder = record { sequence = sequence-back (t .decoder .sequence) j; output = output-back (t .decoder .output) j; kept = output-back (t .decoder .kept) j };
 }
 
 -- tests that hold, put together
@@ -156,15 +157,25 @@ packed-place : (t : Target) → placeIn (packed t) ≡ outputPlace (t .decoder .
 unfolding placeIn packed
 packed-place t = refl
 
+packed-kept : (t : Target) → keptIn (packed t) ≡ outputPlace (t .decoder .kept)
+unfolding keptIn packed
+packed-kept t = refl
+
+-- what an output packs to is what it packs to again
+placed : (p : Place) (o : Output) → p ≡ outputPlace o → samePlace p (outputPlace (outputOf p)) ≡ true
+placed p o e =
+    ap (λ (x : Place). samePlace x (outputPlace (outputOf x))) e
+    ∙ ap (λ (x : Output). samePlace (outputPlace o) (outputPlace x)) (output-back o) ∙ place-self (outputPlace o)
+
 -- what is packed can be unpacked
 pub packed-good : (t : Target) → good (packed t) ≡ true
 unfolding good
 packed-good t =
-    and (and (marks-small t)
+    and (and (and (marks-small t)
     (ap (λ (c : Cycles). sameCycles c (cyclesOf (sequenceOf c))) (packed-cycles t)
     ∙ ap (λ (s : Sequence). sameCycles (cyclesOf (t .decoder .sequence)) (cyclesOf s)) (sequence-back (t .decoder .sequence)) ∙ cycles-self (cyclesOf (t .decoder .sequence))))
-    (ap (λ (p : Place). samePlace p (outputPlace (outputOf p))) (packed-place t)
-    ∙ ap (λ (x : Output). samePlace (outputPlace (t .decoder .output)) (outputPlace x)) (output-back (t .decoder .output)) ∙ place-self (outputPlace (t .decoder .output)))
+    (placed (placeIn (packed t)) (t .decoder .output) (packed-place t)))
+    (placed (keptIn (packed t)) (t .decoder .kept) (packed-kept t))
 
 -- a byte that is a mark
 mark-fits : (n : ℕ) → leb n 1 ≡ true → markByte (isSet n) ≡ n
@@ -226,11 +237,12 @@ pub record FourMarks (i : Image) : Type 0 where
 
 -- what can be unpacked packs back to itself
 pub image-back : (i : Image) → FourMarks i → good i ≡ true → packed (unpacked i) ≡ i
-unfolding good marksGood packed unpacked cyclesIn placeIn
+unfolding good marksGood packed unpacked cyclesIn placeIn keptIn
 image-back i l h =
-    let g = both3 (marksGood i) (sameCycles (cyclesIn i) (cyclesOf (sequenceOf (cyclesIn i)))) (samePlace (placeIn i) (outputPlace (outputOf (placeIn i)))) h in
+    let g = both4 (marksGood i) (sameCycles (cyclesIn i) (cyclesOf (sequenceOf (cyclesIn i)))) (samePlace (placeIn i) (outputPlace (outputOf (placeIn i)))) (samePlace (keptIn i) (outputPlace (outputOf (keptIn i)))) h in
     let cycles = sym (same-cycles (cyclesIn i) (cyclesOf (sequenceOf (cyclesIn i))) (g .1)) in
     let place = sym (same-place (placeIn i) (outputPlace (outputOf (placeIn i))) (g .2)) in
+    let kept = sym (same-place (keptIn i) (outputPlace (outputOf (keptIn i))) (g .3)) in
     let m6 = both (leb (i .powered) 1 && leb (i .high) 1 && leb (i .clear) 1 && leb (i .seen) 1 && fourMarks (i .working) && fourMarks (i .fail)) (fourMarks (i .copyback)) (g .0) in
     let m5 = both (leb (i .powered) 1 && leb (i .high) 1 && leb (i .clear) 1 && leb (i .seen) 1 && fourMarks (i .working)) (fourMarks (i .fail)) (m6 .0) in
     let m4 = both5 (leb (i .powered) 1) (leb (i .high) 1) (leb (i .clear) 1) (leb (i .seen) 1) (fourMarks (i .working)) (m5 .0) in
@@ -248,6 +260,8 @@ image-back i l h =
       row = cycles j .row;
       «output_lun» = place j .lun;
       «output_at» = place j .at;
+      «kept_lun» = kept j .lun;
+      «kept_at» = kept j .at;
       powered = mark-fits (i .powered) (m4 .0) j;
       high = mark-fits (i .high) (m4 .1) j;
       clear = mark-fits (i .clear) (m4 .2) j;
@@ -264,6 +278,7 @@ image-back i l h =
       value = cycles j .value;
       output = place j .kind;
       copyback = copyback-back (i .working) (i .fail) (i .copyback) (l .copyback) (m6 .1) j;
+      kept = kept j .kind;
     }
 
 -- a record that is taken out and put back unchanged is as it was, whatever its numbers

@@ -20,7 +20,7 @@ use Rattle.host.specs.declared.numbers.Place.{Place}
 use Rattle.host.specs.declared.Image.{Image}
 use Rattle.host.specs.Numbers.{markByte, isSet, sequenceOf, cyclesOf, outputOf, outputPlace, lunsOf, workingOf, failOf, copybackOf, sameCycles, samePlace, fourMarks}
 
--- the numbers of the open sequence and of the output
+-- the numbers of the open sequence, of the output and of the output that was kept
 unfoldable pub cyclesIn : Image → Cycles
 cyclesIn i = record {
   kind = i .sequence;
@@ -35,6 +35,9 @@ cyclesIn i = record {
 
 unfoldable pub placeIn : Image → Place
 placeIn i = record { kind = i .output; lun = i .«output_lun»; at = i .«output_at» }
+
+unfoldable pub keptIn : Image → Place
+keptIn i = record { kind = i .kept; lun = i .«kept_lun»; at = i .«kept_at» }
 
 -- the record that the numbers stand for
 unfoldable pub unpacked : Image → Target
@@ -55,11 +58,11 @@ unpacked i = record {
   seen = isSet (i .seen);
   selected = i .selected;
   luns = lunsOf (i .working) (i .fail) (i .copyback);
-  decoder = record { sequence = sequenceOf (cyclesIn i); output = outputOf (placeIn i) };
+  decoder = record { sequence = sequenceOf (cyclesIn i); output = outputOf (placeIn i); kept = outputOf (keptIn i) };
 }
 
-abbrev pub imageFrom : Target → Cycles → Place → Image
-imageFrom t c p = record {
+abbrev pub imageFrom : Target → Cycles → Place → Place → Image
+imageFrom t c p k = record {
   «data_bytes» = t .geometry .bytes;
   «spare_bytes» = t .geometry .spare;
   features = t .words .features;
@@ -73,6 +76,8 @@ imageFrom t c p = record {
   row = c .row;
   «output_lun» = p .lun;
   «output_at» = p .at;
+  «kept_lun» = k .lun;
+  «kept_at» = k .at;
   powered = markByte (t .powered);
   high = markByte (t .high);
   clear = markByte (t .clear);
@@ -89,10 +94,11 @@ imageFrom t c p = record {
   value = c .value;
   output = p .kind;
   copyback = copybackOf (t .luns);
+  kept = k .kind;
 }
 
 unfoldable pub packed : Target → Image
-packed t = imageFrom t (cyclesOf (t .decoder .sequence)) (outputPlace (t .decoder .output))
+packed t = imageFrom t (cyclesOf (t .decoder .sequence)) (outputPlace (t .decoder .output)) (outputPlace (t .decoder .kept))
 
 -- every mark is 0 or 1
 unfoldable pub marksGood : Image → Bool
@@ -106,12 +112,13 @@ marksGood i =
     && fourMarks (i .copyback)
 
 -- the numbers are those that some record packs to: every mark is 0 or 1, every kind is one that there is, and what the
--- present sequence and output have not is 0
+-- present sequence, output and memory have not is 0
 unfoldable pub good : Image → Bool
 good i =
     marksGood i
     && sameCycles (cyclesIn i) (cyclesOf (sequenceOf (cyclesIn i)))
     && samePlace (placeIn i) (outputPlace (outputOf (placeIn i)))
+    && samePlace (keptIn i) (outputPlace (outputOf (keptIn i)))
 
 -- numbers that no record packs to stand for a target that is not powered, of which every event is refused 13 ..
 unfoldable pub taken : Image → Target

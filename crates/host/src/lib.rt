@@ -39,7 +39,7 @@ use unread::unread_part;
 ghost use mathlib.Core.Path.{_≡_};
 ghost use lib.ListN.{length};
 ghost use Rattle.target.specs.Pick.{pick};
-ghost use Rattle.host.specs.Image.{cyclesIn, placeIn, unpacked, imageFrom, packed, marksGood, good, taken, putBack, replyNumber, HostEvent, eventOn, HostTrace, traceOn, HostPower, powerWith, sourceNumber, restNumber, restOn};
+ghost use Rattle.host.specs.Image.{cyclesIn, placeIn, keptIn, unpacked, imageFrom, packed, marksGood, good, taken, putBack, replyNumber, HostEvent, eventOn, HostTrace, traceOn, HostPower, powerWith, sourceNumber, restNumber, restOn};
 
 // The record as a host holds it: `nib_target` of include/nibtoggle.h.
 #[repr(C)]
@@ -57,6 +57,8 @@ pub struct Image {
     pub row: usize,
     pub output_lun: usize,
     pub output_at: usize,
+    pub kept_lun: usize,
+    pub kept_at: usize,
     pub powered: u8,
     pub high: u8,
     pub clear: u8,
@@ -73,6 +75,7 @@ pub struct Image {
     pub value: u8,
     pub output: u8,
     pub copyback: [u8; 4],
+    pub kept: u8,
 }
 
 pub fn cycles_in(i: Image) -> Cycles
@@ -97,6 +100,16 @@ pub fn place_in(i: Image) -> Place
         kind: i.output,
         lun: i.output_lun,
         at: i.output_at,
+    }
+}
+
+pub fn kept_in(i: Image) -> Place
+    ensures { λ r. ⌜ r ≡ keptIn i ⌝ }
+{
+    Place {
+        kind: i.kept,
+        lun: i.kept_lun,
+        at: i.kept_at,
     }
 }
 
@@ -126,7 +139,12 @@ pub fn unpack(i: Image) -> Target
     let luns = to_luns(working, fail, copyback);
     let sequence = to_sequence(cycles_in(i));
     let output = to_output(place_in(i));
-    let decoder = Decoder { sequence, output };
+    let kept = to_output(kept_in(i));
+    let decoder = Decoder {
+        sequence,
+        output,
+        kept,
+    };
     Target {
         powered: is_set(i.powered),
         geometry,
@@ -141,8 +159,8 @@ pub fn unpack(i: Image) -> Target
     }
 }
 
-fn image_from(t: Target, c: Cycles, p: Place) -> Image
-    ensures { λ r. ⌜ r ≡ imageFrom t c p ⌝ }
+fn image_from(t: Target, c: Cycles, p: Place, k: Place) -> Image
+    ensures { λ r. ⌜ r ≡ imageFrom t c p k ⌝ }
 {
     let g = t.geometry;
     let words = t.words;
@@ -165,6 +183,8 @@ fn image_from(t: Target, c: Cycles, p: Place) -> Image
         row: c.row,
         output_lun: p.lun,
         output_at: p.at,
+        kept_lun: k.lun,
+        kept_at: k.at,
         powered: mark_byte(t.powered),
         high: mark_byte(t.high),
         clear: mark_byte(t.clear),
@@ -181,6 +201,7 @@ fn image_from(t: Target, c: Cycles, p: Place) -> Image
         value: c.value,
         output: p.kind,
         copyback,
+        kept: k.kind,
     }
 }
 
@@ -190,9 +211,11 @@ pub fn pack(t: Target) -> Image
     let d = t.decoder;
     let s = d.sequence;
     let o = d.output;
+    let kept = d.kept;
     let c = of_sequence(s);
     let p = of_output(o);
-    image_from(t, c, p)
+    let k = of_output(kept);
+    image_from(t, c, p, k)
 }
 
 fn marks_good(i: Image) -> bool
@@ -216,9 +239,11 @@ pub fn good(i: Image) -> bool
 {
     let c = cycles_in(i);
     let p = place_in(i);
+    let k = kept_in(i);
     marks_good(i)
         & same_cycles(c, of_sequence(to_sequence(c)))
         & same_place(p, of_output(to_output(p)))
+        & same_place(k, of_output(to_output(k)))
 }
 
 fn pick_target(b: bool, x: Target, y: Target) -> Target

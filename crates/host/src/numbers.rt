@@ -66,7 +66,7 @@ pub fn first_number(f: First) -> u8
 }
 
 // The first commands in the list's order.
-const FIRST_COMMANDS: [First; 12] = [
+const FIRST_COMMANDS: [First; 13] = [
     First::Read,
     First::ChangeColumn,
     First::ChangeColumnEnhanced,
@@ -79,6 +79,7 @@ const FIRST_COMMANDS: [First; 12] = [
     First::GetFeatures,
     First::SetFeatures,
     First::CopybackProgram,
+    First::ChangeColumnInPage,
 ];
 
 // The first command at a place of the list; one that is not there is read as the first, and then the numbers are not what it
@@ -87,7 +88,7 @@ pub fn first_at(n: u8) -> First
     ensures { λ r. ⌜ r ≡ firstAt n ⌝ }
 {
     let i = n as usize;
-    if i < 12 {
+    if i < 13 {
         FIRST_COMMANDS[i]
     } else {
         First::Read

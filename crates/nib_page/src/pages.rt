@@ -83,6 +83,7 @@ fn feature_words(out: &mut Paper, p: Pen, page: &[u8]) -> Pen {
     let p = wide(out, p, x);
     let p = named_bit(out, p, x, 0, b"  16-bit bus (not taken)");
     let p = named_bit(out, p, x, 1, b"  more than one LUN");
+    let p = named_bit(out, p, x, 2, b"  pages in any order");
     let p = named_bit(out, p, x, 8, b"  program-clear");
     end_line(out, p)
 }

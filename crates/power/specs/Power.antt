@@ -56,7 +56,7 @@ poweredOf page device = record {
   seen = false;
   selected = 0;
   luns = allReady;
-  decoder = record { sequence = sequence.Idle; output = output.Nothing };
+  decoder = record { sequence = sequence.Idle; output = output.Nothing; kept = output.Nothing };
 }
 
 -- an unpowered target
@@ -71,7 +71,7 @@ unpowered = record {
   seen = false;
   selected = 0;
   luns = allReady;
-  decoder = record { sequence = sequence.Idle; output = output.Nothing };
+  decoder = record { sequence = sequence.Idle; output = output.Nothing; kept = output.Nothing };
 }
 
 -- 20: length not 256

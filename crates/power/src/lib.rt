@@ -110,6 +110,7 @@ pub fn powered_of(page: &[u8], device: u8) -> Target
     let decoder = Decoder {
         sequence: Sequence::Idle,
         output: Output::Nothing,
+        kept: Output::Nothing,
     };
     Target {
         powered: true,
@@ -149,6 +150,7 @@ pub fn unpowered() -> Target
     let decoder = Decoder {
         sequence: Sequence::Idle,
         output: Output::Nothing,
+        kept: Output::Nothing,
     };
     Target {
         powered: false,

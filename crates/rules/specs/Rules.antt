@@ -1,4 +1,4 @@
--- Which rule refuses an event (document 01, "Refusal numbers"; document 02, A1): one definition for each number, and their list in the document's
+-- Which rule refuses an event (document 01, "Refusal numbers"; document 02, A1 and A2): one definition for each number, and their list in the document's
 -- order. `verdict` is the first of the list that holds.
 use Prim.Native.Nat.{ℕ}
 use mathlib.Core.Bool.{Bool, true, false, _&&_, _||_, not}
@@ -6,13 +6,13 @@ use mathlib.Core.List.{List, [], _∷_}
 use lib.Dec.{eqb, ltb, leb}
 use Rattle.target.specs.Pick.{pick, orElse}
 use Rattle.target.specs.Words.{hasFeature}
-use Rattle.target.specs.Sizes.{pageSize}
+use Rattle.target.specs.Sizes.{pageSize, columnEnd}
 use Rattle.target.specs.Address.{lunOf, lunExists, blockExists, rowExists}
 use Rattle.target.specs.Commands.{classOf, isKnown, offered, firstOf, secondOf, secondRow, looksOf, needsReady, waitsFor, needsCopyback, knowsAddress}
 use Rattle.target.specs.Views.{completed, taking}
 use Rattle.target.specs.Luns.{works, copybackAt, anyWorks, othersWork}
 use Rattle.target.specs.Events.{isBus, isReset, badRecord}
-use Rattle.target.specs.Place.{isOpen, takesCommand, takesAddress, takesData, hasOutput}
+use Rattle.target.specs.Place.{isOpen, takesCommand, takesAddress, takesData, putOut, hasOutput}
 use Rattle.target.specs.declared.Event.{Event}
 use Rattle.target.specs.declared.Geometry.{Geometry}
 use Rattle.target.specs.declared.Words.{Words}
@@ -55,7 +55,7 @@ fits d e =
     pick (eqb (e .kind) 0) (takesCommand (d .sequence) (e .value))
     (pick (eqb (e .kind) 1) (takesAddress (d .sequence))
     (pick (eqb (e .kind) 2) (takesData (d .sequence))
-    (hasOutput (d .output))))
+    (hasOutput (putOut d))))
 
 -- 3: known cycle that doesn't fit the place reached
 unfoldable pub misplaced : Decoder → Event → Bool
@@ -71,10 +71,10 @@ exists g looks.Page r = rowExists g r
 abbrev pub rowFits : Geometry → First → Row → Bool
 rowFits g f r = exists g (looksOf f) r
 
--- a column is below P, a row's fields exist, a feature or identification address is one that the command knows
+-- a column is below P, or below 768 within the parameter page, a row's fields exist, a feature or identification address is one that the command knows
 abbrev pub beyond : Geometry → Given → Bool
 beyond g given.Nothing = false
-beyond g (given.Column k) = leb (pageSize g) (k .column .0)
+beyond g (given.Column k) = leb (columnEnd g (k .page)) (k .column .0)
 beyond g (given.Row k) = not (rowFits g (k .first) (k .row))
 beyond g (given.Single k) = not (knowsAddress (k .first) (k .value))
 
@@ -102,7 +102,7 @@ outputWorks luns (output.Feature at) = false
 -- 5: LUN named by 00h, 80h, 85h, 60h or 06h is working (not 78h); also data out of a page register, or 05h, on a working LUN
 unfoldable pub lunWorks : Geometry → List Lun → ℕ → Decoder → Event → Bool
 lunWorks g luns selected d e =
-    eqb (e .kind) 1 && namesWorking g luns selected (completed (d .sequence) (e .value)) || eqb (e .kind) 3 && outputWorks luns (d .output)
+    eqb (e .kind) 1 && namesWorking g luns selected (completed (d .sequence) (e .value)) || eqb (e .kind) 3 && outputWorks luns (putOut d)
 
 -- a row that wants a copyback open on its LUN, where none is
 abbrev pub lacksCopyback : Geometry → List Lun → Given → Bool
@@ -155,7 +155,7 @@ outputEnded g (output.Feature at) = leb 4 at
 
 -- 8: data in or out past the end
 unfoldable pub pastEnd : Geometry → Decoder → Event → Bool
-pastEnd g d e = eqb (e .kind) 2 && dataEnded g (taking (d .sequence)) || eqb (e .kind) 3 && outputEnded g (d .output)
+pastEnd g d e = eqb (e .kind) 2 && dataEnded g (taking (d .sequence)) || eqb (e .kind) 3 && outputEnded g (putOut d)
 
 -- P1 is 0 or 40h, the rest 0; 40h needs feature bit 8
 abbrev pub unoffered : Words → Taker → ℕ → Bool

@@ -38,6 +38,7 @@ use target::picks::or_else;
 use target::picks::pick_bool;
 use target::place::has_output;
 use target::place::is_open;
+use target::place::put_out;
 use target::place::takes_address;
 use target::place::takes_command;
 use target::place::takes_data;
@@ -45,6 +46,7 @@ use target::records::any_works;
 use target::records::copyback_at;
 use target::records::others_work;
 use target::records::works;
+use target::sizes::column_end;
 use target::sizes::page_size;
 use target::views::Given;
 use target::views::Taker;
@@ -71,7 +73,6 @@ pub fn fits(d: Decoder, e: Event) -> bool
     ensures { λ b. ⌜ b ≡ fits d e ⌝ }
 {
     let s = d.sequence;
-    let o = d.output;
     if e.kind == 0 {
         return takes_command(s, e.value);
     }
@@ -81,7 +82,7 @@ pub fn fits(d: Decoder, e: Event) -> bool
     if e.kind == 2 {
         return takes_data(s);
     }
-    has_output(o)
+    has_output(put_out(d))
 }
 
 // Rule 3.
@@ -115,7 +116,7 @@ pub fn beyond(g: Geometry, k: Given) -> bool
         Given::Nothing => false,
         Given::Column(k) => {
             let c = k.column;
-            page_size(g) <= c.0
+            column_end(g, k.page) <= c.0
         }
         Given::Row(k) => {
             let f = k.first;
@@ -170,9 +171,8 @@ pub fn lun_works(g: Geometry, luns: Luns, selected: usize, d: Decoder, e: Event)
     ensures { λ b. ⌜ b ≡ lunWorks g luns selected d e ⌝ }
 {
     let s = d.sequence;
-    let o = d.output;
     ((e.kind == 1) & names_working(g, luns, selected, completed(s, e.value)))
-        | ((e.kind == 3) & output_works(luns, o))
+        | ((e.kind == 3) & output_works(luns, put_out(d)))
 }
 
 pub fn lacks_copyback(g: Geometry, luns: Luns, k: Given) -> bool
@@ -274,8 +274,7 @@ pub fn past_end(g: Geometry, d: Decoder, e: Event) -> bool
     ensures { λ b. ⌜ b ≡ pastEnd g d e ⌝ }
 {
     let s = d.sequence;
-    let o = d.output;
-    ((e.kind == 2) & data_ended(g, taking(s))) | ((e.kind == 3) & output_ended(g, o))
+    ((e.kind == 2) & data_ended(g, taking(s))) | ((e.kind == 3) & output_ended(g, put_out(d)))
 }
 
 pub fn unoffered(w: Words, k: Taker, v: u8) -> bool

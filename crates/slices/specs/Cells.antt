@@ -1,10 +1,10 @@
--- Lists of lent bytes: a part, a splice, an AND, a bound on every byte.
+-- Lists of lent bytes: a part, a splice, an AND, a bound on every byte, whether some byte is set.
 use Prim.Native.Nat.{ℕ, _+_}
-use mathlib.Core.Bool.{Bool, true, _&&_}
+use mathlib.Core.Bool.{Bool, true, false, _&&_, _||_}
 use mathlib.Core.List.{List, [], _∷_, _++_}
 use lib.ListN.{take, drop}
 use lib.Bits.{bitAnd}
-use lib.Dec.{leb}
+use lib.Dec.{leb, ltb}
 
 -- the n bytes from `at` on
 unfoldable pub part : List ℕ → ℕ → ℕ → List ℕ
@@ -24,3 +24,8 @@ andBytes (x ∷ xs) (y ∷ ys) = bitAnd x y ∷ andBytes xs ys
 unfoldable pub allAtMost : ℕ → List ℕ → Bool
 allAtMost most [] = true
 allAtMost most (x ∷ xs) = leb x most && allAtMost most xs
+
+-- some byte is above 0
+unfoldable pub someSet : List ℕ → Bool
+someSet [] = false
+someSet (x ∷ xs) = ltb 0 x || someSet xs

@@ -3,7 +3,7 @@
 ghost use mathlib.Core.Path.{_≡_};
 ghost use Prim.Native.Nat.{_+_, _≤_, _<_};
 ghost use lib.ListN.{length, replicate, getD, set};
-ghost use Rattle.slices.specs.Cells.{andBytes, splice, part, allAtMost};
+ghost use Rattle.slices.specs.Cells.{andBytes, splice, part, allAtMost, someSet};
 
 // Every byte becomes `v`.
 pub fn fill(dst: &mut [u8], v: u8)
@@ -99,4 +99,37 @@ pub fn at_most(s: &[u8], most: u8) -> bool
         i += 1;
     }
     true
+}
+
+// Some byte is above 0. The whole slice is looked at, without a way out, so that many bytes go at once.
+pub fn some_set(s: &[u8]) -> bool
+    ensures { λ r. ⌜ r ≡ someSet (now (s .entry)) ⌝ }
+{
+    let mut any = false;
+    let mut i = 0;
+    while i < s.len() {
+        any = any | (0 < s[i]);
+        i += 1;
+    }
+    any
+}
+
+// The `count` bytes from `at` on, as many as there are.
+pub fn part_of(s: &[u8], at: usize, count: usize) -> &[u8]
+    ensures { λ r. ⌜ now r ≡ part (now (s .entry)) at count ⌝ }
+{
+    if s.len() <= at {
+        return &s[..0];
+    }
+    if s.len() - at <= count {
+        return &s[at..];
+    }
+    &s[at..at + count]
+}
+
+// Some byte of the `count` from `at` on is above 0.
+pub fn some_set_part(s: &[u8], at: usize, count: usize) -> bool
+    ensures { λ r. ⌜ r ≡ someSet (part (now (s .entry)) at count) ⌝ }
+{
+    some_set(part_of(s, at, count))
 }

@@ -1,7 +1,7 @@
 -- What a record that rule 13 lets pass says: its parts, the places in it as numbers, the buffers' lengths.
 -- Assumes nothing.
 use mathlib.Core.Path.{_≡_, refl}
-use mathlib.Core.Bool.{Bool, true, false, _&&_, false≢true}
+use mathlib.Core.Bool.{Bool, true, false, _&&_, not, false≢true}
 use mathlib.Core.List.{List}
 use Prim.Native.Nat.{ℕ, _*_, _≤_, _<_}
 use native.Mathlib.Omega.{arith}
@@ -9,7 +9,9 @@ use lib.ListN.{length}
 use lib.Dec.{eqb, ltb, leb}
 use borrow.Author.Tests.{eqb-true, ltb-true, leb-true}
 use Rattle.target.specs.Address.{rowExists}
+use Rattle.target.specs.Pick.{pick}
 use Rattle.target.specs.Commands.{takesProgramData}
+use Rattle.target.specs.Place.{isBare, putOut, showsStatus}
 use Rattle.target.specs.Views.{taking}
 use Rattle.target.specs.Sizes.{pageSize, inLimits, sized}
 use Rattle.target.specs.declared.Column.{Column}
@@ -24,7 +26,7 @@ use Rattle.target.specs.declared.Output.the-variants as output
 use Rattle.target.proofs.Both.{both, both3, both4, both5}
 use Rattle.target.proofs.Limits.{Limits, limits}
 use Rattle.effects.specs.Effects.{placeIn, placeOut}
-use Rattle.step.specs.Usable.{sequenceSound, outputSound, marksSound, wordsSound, recordSound, usable}
+use Rattle.step.specs.Usable.{sequenceSound, outputSound, keptSound, marksSound, wordsSound, recordSound, usable}
 use Rattle.step.specs.Step.{Sizes}
 
 pub record Sound (t : Target) : Type 0 where
@@ -35,6 +37,7 @@ pub record Sound (t : Target) : Type 0 where
   pub marks : marksSound (t .geometry) (t .luns) ≡ true
   pub sequence : sequenceSound (t .geometry) (t .decoder .sequence) ≡ true
   pub output : outputSound (t .geometry) (t .decoder .output) ≡ true
+  pub kept : keptSound (t .geometry) (t .decoder .kept) ≡ true
 
 pub sound : (t : Target) → recordSound t ≡ true → Sound t
 unfolding recordSound
@@ -45,8 +48,10 @@ sound t h =
     let o = outputSound g (t .decoder .output) in
     let w = wordsSound g (t .words) in
     let l = ltb (t .selected) (g .luns) in
-    let p = both (t .powered && inLimits g && w && l && m && s) o h in
-    let q = both (t .powered && inLimits g && w && l && m) s (p .0) in
+    let k = keptSound g (t .decoder .kept) in
+    let p = both (t .powered && inLimits g && w && l && m && s && o) k h in
+    let n = both (t .powered && inLimits g && w && l && m && s) o (p .0) in
+    let q = both (t .powered && inLimits g && w && l && m) s (n .0) in
     let r = both5 (t .powered) (inLimits g) w l m (q .0) in
     record {
       powered = r .0;
@@ -55,8 +60,17 @@ sound t h =
       selected = ltb-true _ _ (r .3);
       marks = r .4;
       sequence = q .1;
-      output = p .1;
+      output = n .1;
+      kept = p .1;
     }
+
+-- whichever of the two is put out is sound
+pub put-out-sound : (t : Target) → Sound t → outputSound (t .geometry) (putOut (t .decoder)) ≡ true
+put-out-sound t k = by (isBare (t .decoder .sequence))
+  where
+    by : (b : Bool) → outputSound (t .geometry) (pick b (t .decoder .kept) (t .decoder .output)) ≡ true
+    by true = both (outputSound (t .geometry) (t .decoder .kept)) (not (showsStatus (t .decoder .kept))) (k .kept) .0
+    by false = k .output
 
 -- a program's place and its row
 pub filling-place : (g : Geometry) (k : Fill) → sequenceSound g (Filling k) ≡ true → k .at .0 ≤ pageSize g
@@ -92,11 +106,11 @@ place-out g m (output.Ids at) h = omega (arith, leb-true at 2 h)
 place-out g m (output.Signature at) h = omega (arith, leb-true at 4 h)
 place-out g m (output.Feature at) h = omega (arith, leb-true at 4 h)
 
-pub places-small : (t : Target) → recordSound t ≡ true → (placeIn (taking (t .decoder .sequence)) < 65536) × (placeOut (t .decoder .output) < 65536)
+pub places-small : (t : Target) → recordSound t ≡ true → (placeIn (taking (t .decoder .sequence)) < 65536) × (placeOut (putOut (t .decoder)) < 65536)
 places-small t h =
     let k = sound t h in
     let m = limits (t .geometry) (k .limited) in
-    (place-in (t .geometry) m (t .decoder .sequence) (k .sequence), place-out (t .geometry) m (t .decoder .output) (k .output))
+    (place-in (t .geometry) m (t .decoder .sequence) (k .sequence), place-out (t .geometry) m (putOut (t .decoder)) (put-out-sound t k))
 
 -- what rule 13 lets pass
 pub record Passes (t : Target) (params array registers counts flags : List ℕ) : Type 0 where

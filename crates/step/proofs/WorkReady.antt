@@ -13,13 +13,14 @@ use Rattle.target.specs.Sizes.{pageSize}
 use Rattle.target.specs.Address.{lunOf, rowExists, blockExists, lunExists}
 use Rattle.target.specs.Commands.{takesColumn, takesRow, waitsSecond, looksOf, clearsRegister, rowOf, firstOf, secondOf, secondRow}
 use Rattle.target.specs.Views.{completed, taking, ending, endedBy, endedWith, endsWith}
-use Rattle.target.specs.Place.{isOpen}
+use Rattle.target.specs.Place.{isOpen, putOut}
 use Rattle.target.specs.Events.{isReset}
 use Rattle.target.specs.declared.Column.{Column}
 use Rattle.target.specs.declared.Row.{Row}
 use Rattle.target.specs.declared.Event.{Event}
 use Rattle.target.specs.declared.Findings.{Findings}
 use Rattle.target.specs.declared.Geometry.{Geometry}
+use Rattle.target.specs.declared.Words.{Words}
 use Rattle.target.specs.declared.Target.{Target}
 use Rattle.target.specs.declared.First.{First}
 use Rattle.target.specs.declared.Second.{Second}
@@ -47,7 +48,7 @@ use Rattle.rules.specs.Rules.{exists, rowFits, beyond, dataEnded, outputEnded, 
 use Rattle.rules.proofs.Passed.{Passed, all-passed}
 use Rattle.effects.specs.Effects.{acted, endedWork, firstWork, commandWork, addressWork, dataWork, workOf}
 use Rattle.step.specs.Usable.{columnHeld, rowHeld, sequenceSound, recordSound}
-use Rattle.step.specs.Buffers.{pageIndex, blockBad, pageFull, proceeds, endedFindings, findings}
+use Rattle.step.specs.Buffers.{pageIndex, blockBad, pageFull, outOfOrder, proceeds, endedFindings, findings}
 use Rattle.step.specs.Step.{Ready, Reaches, EnderReaches}
 use Rattle.step.proofs.Places.{row-lun, row-block}
 use Rattle.step.proofs.Sound.{Sound, sound, filling-row}
@@ -171,38 +172,39 @@ module _ (g : Geometry) (counts : List ℕ) where
   clear-all = tt
 
   -- a page that takes a program has one left
-  page-left : (r : Row) (flags : List ℕ) → Limits g → (blockBad g r flags || pageFull g r counts) ≡ false → getD counts (pageIndex g r) 0 < 255
+  page-left : (w : Words) (r : Row) (flags : List ℕ) → Limits g → (blockBad g r flags || pageFull g r counts || outOfOrder g w r counts) ≡ false → getD counts (pageIndex g r) 0 < 255
   unfolding pageFull
-  page-left r flags m h =
+  page-left w r flags m h =
+      let first = neither (blockBad g r flags || pageFull g r counts) (outOfOrder g w r counts) h .0 in
       let full = leb (g .programs) (getD counts (pageIndex g r) 0) in
-      omega (arith, leb-false (g .programs) (getD counts (pageIndex g r) 0) (neither (blockBad g r flags) full h .1), m .programs-max)
+      omega (arith, leb-false (g .programs) (getD counts (pageIndex g r) 0) (neither (blockBad g r flags) full first .1), m .programs-max)
 
   -- 30h, 10h and D0h
-  act-ready : (a : Act) (r : Row) (flags : List ℕ) (found : Findings) → Limits g → Reaches g a r → found .proceeds ≡ proceeds g a r counts flags → Ready g (acted a r found) counts
+  act-ready : (w : Words) (a : Act) (r : Row) (flags : List ℕ) (found : Findings) → Limits g → Reaches g a r → found .proceeds ≡ proceeds g w a r counts flags → Ready g (acted a r found) counts
   unfolding Ready Reaches
-  act-ready act.Nothing r flags found m h k = tt
-  act-ready act.Load r flags found m h k = h
-  act-ready act.Program r flags found m h k =
+  act-ready w act.Nothing r flags found m h k = tt
+  act-ready w act.Load r flags found m h k = h
+  act-ready w act.Program r flags found m h k =
       ready-pick (found .proceeds) (work.Program r) work.Nothing
-      (λ p. (h, page-left r flags m (not-true (blockBad g r flags || pageFull g r counts) (sym k ∙ p))))
+      (λ p. (h, page-left w r flags m (not-true (blockBad g r flags || pageFull g r counts || outOfOrder g w r counts) (sym k ∙ p))))
       (λ _. tt)
-  act-ready act.Erase r flags found m h k = ready-pick (found .proceeds) (work.Erase r) work.Nothing (λ _. h) (λ _. tt)
-  act-ready act.Move r flags found m h k = tt
+  act-ready w act.Erase r flags found m h k = ready-pick (found .proceeds) (work.Erase r) work.Nothing (λ _. h) (λ _. tt)
+  act-ready w act.Move r flags found m h k = tt
 
-  ended-ready : (k : Ender) (flags : List ℕ) (found : Findings) → Limits g → EnderReaches g k → found ≡ endedFindings g k counts flags → Ready g (endedWork k found) counts
+  ended-ready : (w : Words) (k : Ender) (flags : List ℕ) (found : Findings) → Limits g → EnderReaches g k → found ≡ endedFindings g w k counts flags → Ready g (endedWork k found) counts
   unfolding EnderReaches
-  ended-ready ender.Nothing flags found m h e = nothing
-  ended-ready (ender.By k) flags found m h e =
-      act-ready (secondRow (k .second) .act) (k .row) flags found m h (ap (λ (x : Findings). x .proceeds) e)
+  ended-ready w ender.Nothing flags found m h e = nothing
+  ended-ready w (ender.By k) flags found m h e =
+      act-ready w (secondRow (k .second) .act) (k .row) flags found m h (ap (λ (x : Findings). x .proceeds) e)
 
   first-ready : (clear : Bool) (k : FirstFound) → Ready g (firstWork clear k) counts
   first-ready clear first.Nothing = nothing
   first-ready clear (first.Found f) = ready-pick (clearsRegister f && not clear) work.ClearAll work.Nothing (λ _. clear-all) (λ _. nothing)
 
-  command-ready : (clear : Bool) (s : Sequence) (v : ℕ) (flags : List ℕ) (found : Findings) → Limits g → sequenceSound g s ≡ true → found ≡ endedFindings g (ending s v) counts flags → Ready g (commandWork clear s v found) counts
-  command-ready clear s v flags found m h k =
+  command-ready : (w : Words) (clear : Bool) (s : Sequence) (v : ℕ) (flags : List ℕ) (found : Findings) → Limits g → sequenceSound g s ≡ true → found ≡ endedFindings g w (ending s v) counts flags → Ready g (commandWork clear s v found) counts
+  command-ready w clear s v flags found m h k =
       ready-pick (isOpen s) (endedWork (ending s v) found) (firstWork clear (firstOf v))
-      (λ _. ended-ready (ending s v) flags found m (ender-reaches g s v h) k)
+      (λ _. ended-ready w (ending s v) flags found m (ender-reaches g s v h) k)
       (λ _. first-ready clear (firstOf v))
 
   -- 80h's row, with program-clear on
@@ -263,10 +265,10 @@ module _ (t : Target) (e : Event) (counts flags : List ℕ) (ok : recordSound t 
   unfolding pastEnd
   in-place k =
       then-not (eqb (e .kind) 2) _
-      (neither (eqb (e .kind) 2 && dataEnded (t .geometry) (taking (t .decoder .sequence))) (eqb (e .kind) 3 && outputEnded (t .geometry) (t .decoder .output)) (all-passed t e accepted .rule-8) .0)
+      (neither (eqb (e .kind) 2 && dataEnded (t .geometry) (taking (t .decoder .sequence))) (eqb (e .kind) 3 && outputEnded (t .geometry) (putOut (t .decoder))) (all-passed t e accepted .rule-8) .0)
       k
 
-  pub work-ready : (found : Findings) → found ≡ findings (t .geometry) (t .decoder .sequence) e counts flags → Ready (t .geometry) (workOf (t .geometry) (t .clear) (t .decoder .sequence) e found) counts
+  pub work-ready : (found : Findings) → found ≡ findings (t .geometry) (t .words) (t .decoder .sequence) e counts flags → Ready (t .geometry) (workOf (t .geometry) (t .clear) (t .decoder .sequence) e found) counts
   unfolding workOf findings
   work-ready found h =
       let g = t .geometry in
@@ -279,7 +281,7 @@ module _ (t : Target) (e : Event) (counts flags : List ℕ) (ok : recordSound t 
       let w0 = pick (eqb (e .kind) 0) (commandWork (t .clear) s v found) w1 in
       ready-pick g counts (isReset e) work.ClearAll w0 (λ _. clear-all g counts)
       (λ _. ready-pick g counts (eqb (e .kind) 0) (commandWork (t .clear) s v found) w1
-      (λ is. command-ready g counts (t .clear) s v flags found m (k .sequence) (h ∙ picked (eqb (e .kind) 0) _ _ is))
+      (λ is. command-ready g counts (t .words) (t .clear) s v flags found m (k .sequence) (h ∙ picked (eqb (e .kind) 0) _ _ is))
       (λ _. ready-pick g counts (eqb (e .kind) 1) (addressWork g (t .clear) (completed s v)) w2
       (λ is. address-ready g counts (t .clear) (completed s v) (in-range is))
       (λ _. ready-pick g counts (eqb (e .kind) 2) (dataWork g (taking s) v) work.Nothing

@@ -1,11 +1,12 @@
--- What work does to the lent buffers (document 01, "The steps"). Pages lie in the array in order of LUN, block, page.
+-- What work does to the lent buffers (document 01, "The steps"; document 02, A4). Pages lie in the array in order of LUN, block, page.
 use mathlib.Core.Bool.{Bool, true, false, _&&_, _||_, not}
 use mathlib.Core.List.{List}
-use Prim.Native.Nat.{ℕ, _+_, _*_, _%_}
+use Prim.Native.Nat.{ℕ, _+_, _-_, _*_, _%_}
 use lib.ListN.{length, getD, set, replicate}
 use lib.Dec.{eqb, leb}
-use Rattle.slices.specs.Cells.{splice, part, andBytes}
+use Rattle.slices.specs.Cells.{splice, part, andBytes, someSet}
 use Rattle.target.specs.Pick.{pick}
+use Rattle.target.specs.Words.{hasFeature}
 use Rattle.target.specs.Address.{pageOf, blockOf, lunOf}
 use Rattle.target.specs.Sizes.{pageSize}
 use Rattle.target.specs.Commands.{secondRow}
@@ -14,6 +15,7 @@ use Rattle.target.specs.Luns.{works, failed}
 use Rattle.target.specs.declared.Column.{Column}
 use Rattle.target.specs.declared.Row.{Row}
 use Rattle.target.specs.declared.Geometry.{Geometry}
+use Rattle.target.specs.declared.Words.{Words}
 use Rattle.target.specs.declared.Event.{Event}
 use Rattle.target.specs.declared.Target.{Target}
 use Rattle.target.specs.declared.Findings.{Findings}
@@ -77,22 +79,30 @@ blockBad g r flags = not (eqb (getD flags (blockIndex g r) 0) 0)
 unfoldable pub pageFull : Geometry → Row → List ℕ → Bool
 pageFull g r counts = leb (g .programs) (getD counts (pageIndex g r) 0)
 
--- 10h does not proceed on a bad block or a full page, D0h not on a bad block; a read always does
-abbrev pub proceeds : Geometry → Act → Row → List ℕ → List ℕ → Bool
-proceeds g act.Nothing r counts flags = true
-proceeds g act.Load r counts flags = true
-proceeds g act.Program r counts flags = not (blockBad g r flags || pageFull g r counts)
-proceeds g act.Erase r counts flags = not (blockBad g r flags)
-proceeds g act.Move r counts flags = true
+-- a higher page of its block has a count above 0
+unfoldable pub higherWritten : Geometry → Row → List ℕ → Bool
+higherWritten g r counts = someSet (part counts (pageIndex g r + 1) (g .pages - (pageOf g r + 1)))
 
-abbrev pub endedFindings : Geometry → Ender → List ℕ → List ℕ → Findings
-endedFindings g ender.Nothing counts flags = record { proceeds = true }
-endedFindings g (ender.By k) counts flags = record { proceeds = proceeds g (secondRow (k .second) .act) (k .row) counts flags }
+-- pages are programmed upward within a block, unless feature bit 2 offers any order (document 02, A4)
+unfoldable pub outOfOrder : Geometry → Words → Row → List ℕ → Bool
+outOfOrder g w r counts = not (hasFeature w 2) && higherWritten g r counts
+
+-- 10h does not proceed on a bad block, on a full page or out of order, D0h not on a bad block; a read always does
+abbrev pub proceeds : Geometry → Words → Act → Row → List ℕ → List ℕ → Bool
+proceeds g w act.Nothing r counts flags = true
+proceeds g w act.Load r counts flags = true
+proceeds g w act.Program r counts flags = not (blockBad g r flags || pageFull g r counts || outOfOrder g w r counts)
+proceeds g w act.Erase r counts flags = not (blockBad g r flags)
+proceeds g w act.Move r counts flags = true
+
+abbrev pub endedFindings : Geometry → Words → Ender → List ℕ → List ℕ → Findings
+endedFindings g w ender.Nothing counts flags = record { proceeds = true }
+endedFindings g w (ender.By k) counts flags = record { proceeds = proceeds g w (secondRow (k .second) .act) (k .row) counts flags }
 
 -- what the buffers say of the event that comes
-unfoldable pub findings : Geometry → Sequence → Event → List ℕ → List ℕ → Findings
-findings g s e counts flags =
-    pick (eqb (e .kind) 0) (endedFindings g (ending s (e .value)) counts flags) (record { proceeds = true })
+unfoldable pub findings : Geometry → Words → Sequence → Event → List ℕ → List ℕ → Findings
+findings g w s e counts flags =
+    pick (eqb (e .kind) 0) (endedFindings g w (ending s (e .value)) counts flags) (record { proceeds = true })
 
 -- 128 if the line is high, plus 96 if ready, plus FAIL if ready
 unfoldable pub statusOf : Target → ℕ → ℕ

@@ -9,6 +9,7 @@ use Rattle.target.specs.Pick.{pick}
 use Rattle.target.specs.Sizes.{pageSize}
 use Rattle.target.specs.Address.{lunOf, blockExists, rowExists}
 use Rattle.target.specs.Commands.{secondRow}
+use Rattle.target.specs.Place.{putOut}
 use Rattle.target.specs.declared.Row.{Row}
 use Rattle.target.specs.declared.commands.Act.{Act}
 use Rattle.target.specs.declared.commands.Act.the-variants as act
@@ -43,7 +44,7 @@ pub record Outcome : Type 0 where
 
 -- a data-out cycle gives a byte
 unfoldable pub replyOf : Target → Event → List ℕ → List ℕ → Reply
-replyOf t e params registers = pick (eqb (e .kind) 3) (Byte (outputByte t params registers (t .decoder .output))) Accepted
+replyOf t e params registers = pick (eqb (e .kind) 3) (Byte (outputByte t params registers (putOut (t .decoder)))) Accepted
 
 -- the buffers after work
 unfoldable pub worked : Geometry → Work → Buffers → Buffers
@@ -63,7 +64,7 @@ acceptedBy t e params b found = record {
 
 unfoldable pub accepted : Target → Event → List ℕ → Buffers → List ℕ → Outcome
 accepted t e params b flags =
-    acceptedBy t e params b (findings (t .geometry) (t .decoder .sequence) e (b .counts) flags)
+    acceptedBy t e params b (findings (t .geometry) (t .words) (t .decoder .sequence) e (b .counts) flags)
 
 -- a record and buffers that rule 13 lets pass, by the verdict
 unfoldable pub byVerdict : Verdict → Target → Event → List ℕ → Buffers → List ℕ → Outcome

@@ -8,9 +8,10 @@ use lib.Dec.{eqb, ltb, leb}
 use Rattle.target.specs.Pick.{pick}
 use Rattle.target.specs.Words.{hasFeature}
 use Rattle.target.specs.Address.{rowExists}
-use Rattle.target.specs.Commands.{takesColumn, takesRow, cyclesOf, waitsSecond, takesProgramData}
+use Rattle.target.specs.Commands.{takesColumn, takesRow, cyclesOf, waitsSecond, takesProgramData, inPage}
 use Rattle.target.specs.Luns.{isReady, lunAt}
-use Rattle.target.specs.Sizes.{pageSize, inLimits, sized}
+use Rattle.target.specs.Place.{showsStatus}
+use Rattle.target.specs.Sizes.{pageSize, columnEnd, inLimits, sized}
 use Rattle.target.specs.declared.Column.{Column}
 use Rattle.target.specs.declared.Row.{Row}
 use Rattle.target.specs.declared.Geometry.{Geometry}
@@ -24,9 +25,9 @@ use Rattle.target.specs.declared.Output.{Output}
 use Rattle.target.specs.declared.Output.the-variants as output
 use Rattle.rules.specs.Rules.{rowFits}
 
--- a column that has come is below P; where none comes it is 0
+-- a column that has come is below P, and one of the parameter page below 768; where none comes it is 0
 abbrev pub columnHeld : Geometry → First → Column → Bool
-columnHeld g f c = pick (takesColumn f) (ltb (c .0) (pageSize g)) (eqb (c .0) 0)
+columnHeld g f c = pick (takesColumn f) (ltb (c .0) (columnEnd g (inPage f))) (eqb (c .0) 0)
 
 -- a row that has come exists, as its command looks at it; where none comes it is 0
 abbrev pub rowHeld : Geometry → First → Row → Bool
@@ -54,6 +55,10 @@ outputSound g (output.Ids at) = leb at 2
 outputSound g (output.Signature at) = leb at 4
 outputSound g (output.Feature at) = leb at 4
 
+-- what is kept behind a status is any output but a status
+abbrev pub keptSound : Geometry → Output → Bool
+keptSound g o = outputSound g o && not (showsStatus o)
+
 -- the copyback mark may be either way; a LUN past the count is as power-on left it
 abbrev pub markSound : Geometry → List Lun → ℕ → Bool
 markSound g luns l = ltb l (g .luns) || isReady (lunAt luns l)
@@ -74,6 +79,7 @@ recordSound t =
     && marksSound (t .geometry) (t .luns)
     && sequenceSound (t .geometry) (t .decoder .sequence)
     && outputSound (t .geometry) (t .decoder .output)
+    && keptSound (t .geometry) (t .decoder .kept)
 
 -- rule 13 does not hold: the record is sound, the parameter bytes are 256, the other buffers have the geometry's lengths
 unfoldable pub usable : Target → ℕ → ℕ → ℕ → ℕ → ℕ → Bool

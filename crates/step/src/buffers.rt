@@ -6,6 +6,7 @@ use slices::fill;
 use slices::fill_part;
 use slices::put;
 use slices::put_part;
+use slices::some_set_part;
 use target::Column;
 use target::Event;
 use target::Findings;
@@ -14,10 +15,12 @@ use target::Output;
 use target::Row;
 use target::Sequence;
 use target::Target;
+use target::Words;
 use target::Work;
 use target::address::block_of;
 use target::address::lun_of;
 use target::address::page_of;
+use target::bits::has_feature;
 use target::commands::Act;
 use target::commands::second_row;
 use target::picks::pick_byte;
@@ -34,7 +37,7 @@ ghost use Rattle.target.specs.Address.{rowExists, blockExists};
 ghost use Rattle.target.specs.Sizes.{pageSize, inLimits};
 ghost use Rattle.target.specs.declared.Work.the-variants as work;
 ghost use Rattle.step.specs.Usable.{sequenceSound, outputSound};
-ghost use Rattle.step.specs.Buffers.{blockIndex, pageIndex, registersAfter, arrayAfter, countsAfter, blockBad, pageFull, proceeds, endedFindings, findings, statusOf, outputByte};
+ghost use Rattle.step.specs.Buffers.{blockIndex, pageIndex, registersAfter, arrayAfter, countsAfter, blockBad, pageFull, higherWritten, outOfOrder, proceeds, endedFindings, findings, statusOf, outputByte};
 ghost use Rattle.step.specs.Step.{Sizes, Ready, Reaches, EnderReaches};
 
 pub fn block_index(g: Geometry, r: Row) -> usize
@@ -66,25 +69,44 @@ pub fn page_full(g: Geometry, r: Row, counts: &[u8]) -> bool
     g.programs <= n
 }
 
-// A program does not proceed on a bad block or a full page, an erase not on a bad block.
-pub fn proceeds(g: Geometry, a: Act, r: Row, counts: &[u8], flags: &[u8]) -> bool
+// A higher page of the block has been programmed since its last erase.
+pub fn higher_written(g: Geometry, r: Row, counts: &[u8]) -> bool
+    requires { ⌜ (inLimits g ≡ true) × (rowExists g r ≡ true) ⌝ }
+    ensures { λ b. ⌜ b ≡ higherWritten g r (now (counts .entry)) ⌝ }
+{
+    let first = page_index(g, r) + 1;
+    some_set_part(counts, first, g.pages - (page_of(g, r) + 1))
+}
+
+// Most parts want a block's pages programmed upward.
+pub fn out_of_order(g: Geometry, w: Words, r: Row, counts: &[u8]) -> bool
+    requires { ⌜ (inLimits g ≡ true) × (rowExists g r ≡ true) ⌝ }
+    ensures { λ b. ⌜ b ≡ outOfOrder g w r (now (counts .entry)) ⌝ }
+{
+    !has_feature(w, 2) & higher_written(g, r, counts)
+}
+
+// A program does not proceed on a bad block, on a full page or out of order, an erase not on a bad block.
+pub fn proceeds(g: Geometry, w: Words, a: Act, r: Row, counts: &[u8], flags: &[u8]) -> bool
     requires { ⌜ inLimits g ≡ true ⌝ }
     requires { ⌜ Reaches g a r ⌝ }
-    ensures { λ b. ⌜ b ≡ proceeds g a r (now (counts .entry)) (now (flags .entry)) ⌝ }
+    ensures { λ b. ⌜ b ≡ proceeds g w a r (now (counts .entry)) (now (flags .entry)) ⌝ }
 {
     match a {
         Act::Nothing => true,
         Act::Load => true,
-        Act::Program => !(block_bad(g, r, flags) | page_full(g, r, counts)),
+        Act::Program => !(block_bad(g, r, flags)
+            | page_full(g, r, counts)
+            | out_of_order(g, w, r, counts)),
         Act::Erase => !block_bad(g, r, flags),
         Act::Move => true,
     }
 }
 
-pub fn ended_findings(g: Geometry, k: Ender, counts: &[u8], flags: &[u8]) -> Findings
+pub fn ended_findings(g: Geometry, w: Words, k: Ender, counts: &[u8], flags: &[u8]) -> Findings
     requires { ⌜ inLimits g ≡ true ⌝ }
     requires { ⌜ EnderReaches g k ⌝ }
-    ensures { λ r. ⌜ r ≡ endedFindings g k (now (counts .entry)) (now (flags .entry)) ⌝ }
+    ensures { λ r. ⌜ r ≡ endedFindings g w k (now (counts .entry)) (now (flags .entry)) ⌝ }
 {
     match k {
         Ender::Nothing => Findings { proceeds: true },
@@ -94,19 +116,26 @@ pub fn ended_findings(g: Geometry, k: Ender, counts: &[u8], flags: &[u8]) -> Fin
             let row = second_row(second);
             let a = row.act;
             Findings {
-                proceeds: proceeds(g, a, r, counts, flags),
+                proceeds: proceeds(g, w, a, r, counts, flags),
             }
         }
     }
 }
 
 // What the buffers say of the event that comes: only a command can start work that does not proceed.
-pub fn findings(g: Geometry, s: Sequence, e: Event, counts: &[u8], flags: &[u8]) -> Findings
+pub fn findings(
+    g: Geometry,
+    w: Words,
+    s: Sequence,
+    e: Event,
+    counts: &[u8],
+    flags: &[u8],
+) -> Findings
     requires { ⌜ (inLimits g ≡ true) × (sequenceSound g s ≡ true) ⌝ }
-    ensures { λ r. ⌜ r ≡ findings g s e (now (counts .entry)) (now (flags .entry)) ⌝ }
+    ensures { λ r. ⌜ r ≡ findings g w s e (now (counts .entry)) (now (flags .entry)) ⌝ }
 {
     if e.kind == 0 {
-        ended_findings(g, ending(s, e.value), counts, flags)
+        ended_findings(g, w, ending(s, e.value), counts, flags)
     } else {
         Findings { proceeds: true }
     }

@@ -14,6 +14,7 @@ use target::Refusal;
 use target::Reply;
 use target::Target;
 use target::Verdict;
+use target::place::put_out;
 use usable::usable;
 ghost use mathlib.Core.Path.{_≡_};
 ghost use mathlib.Core.Bool.{true};
@@ -34,8 +35,7 @@ fn reply_of(t: Target, e: Event, params: &[u8], registers: &[u8]) -> Reply
 {
     if e.kind == 3 {
         let d = t.decoder;
-        let o = d.output;
-        Reply::Byte(output_byte(t, params, registers, o))
+        Reply::Byte(output_byte(t, params, registers, put_out(d)))
     } else {
         Reply::Accepted
     }
@@ -60,7 +60,8 @@ fn accept(
     let g = t.geometry;
     let d = t.decoder;
     let s = d.sequence;
-    let found = findings(g, s, e, counts, flags);
+    let words = t.words;
+    let found = findings(g, words, s, e, counts, flags);
     let reply = reply_of(t, e, params, registers);
     let w = work_of(g, t.clear, s, e, found);
     perform(g, w, array, registers, counts);

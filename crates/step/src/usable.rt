@@ -15,24 +15,28 @@ use target::Words;
 use target::address::row_exists;
 use target::bits::has_feature;
 use target::commands::cycles_of;
+use target::commands::in_page;
 use target::commands::takes_column;
 use target::commands::takes_program_data;
 use target::commands::takes_row;
 use target::commands::waits_second;
 use target::picks::pick_bool;
+use target::place::shows_status;
 use target::records::is_ready;
 use target::records::lun_at;
+use target::sizes::column_end;
 use target::sizes::in_limits;
 use target::sizes::page_size;
 use target::sizes::sized;
 ghost use mathlib.Core.Path.{_≡_};
 ghost use Rattle.target.specs.declared.Sequence.the-variants as sequence;
-ghost use Rattle.step.specs.Usable.{columnHeld, rowHeld, sequenceSound, outputSound, markSound, marksSound, wordsSound, recordSound, usable};
+ghost use Rattle.step.specs.Usable.{columnHeld, rowHeld, sequenceSound, outputSound, keptSound, markSound, marksSound, wordsSound, recordSound, usable};
 
 pub fn column_held(g: Geometry, f: First, c: Column) -> bool
     ensures { λ b. ⌜ b ≡ columnHeld g f c ⌝ }
 {
-    pick_bool(takes_column(f), c.0 < page_size(g), c.0 == 0)
+    let end = column_end(g, in_page(f));
+    pick_bool(takes_column(f), c.0 < end, c.0 == 0)
 }
 
 pub fn row_held(g: Geometry, f: First, r: Row) -> bool
@@ -103,6 +107,13 @@ pub fn output_sound(g: Geometry, o: Output) -> bool
     }
 }
 
+// What is kept is never a status.
+pub fn kept_sound(g: Geometry, o: Output) -> bool
+    ensures { λ b. ⌜ b ≡ keptSound g o ⌝ }
+{
+    output_sound(g, o) & !shows_status(o)
+}
+
 pub fn mark_sound(g: Geometry, luns: Luns, l: usize) -> bool
     ensures { λ b. ⌜ b ≡ markSound g luns l ⌝ }
 {
@@ -133,6 +144,7 @@ pub fn record_sound(t: Target) -> bool
     let d = t.decoder;
     let s = d.sequence;
     let o = d.output;
+    let kept = d.kept;
     t.powered
         & in_limits(g)
         & words_sound(g, words)
@@ -140,6 +152,7 @@ pub fn record_sound(t: Target) -> bool
         & marks_sound(g, luns)
         & sequence_sound(g, s)
         & output_sound(g, o)
+        & kept_sound(g, kept)
 }
 
 // Rule 13 does not hold. The lengths are multiplied out only within the limits.

@@ -1,18 +1,18 @@
 -- The lists of first and of second commands have a row for each; what a test computes over the list holds of every first command;
--- the byte of a first command names it.
+-- the byte of a first command names it, unless it is 05h within the parameter page.
 -- Assumes nothing.
 use mathlib.Core.Path.{_≡_, refl, sym, ap, subst, _∙_}
-use mathlib.Core.Bool.{Bool, true, false, _&&_, false≢true}
+use mathlib.Core.Bool.{Bool, true, false, _&&_, _||_, false≢true}
 use mathlib.Core.List.{List, [], _∷_}
 use Prim.Native.Nat.{ℕ, zero, suc, _<_}
 use native.Mathlib.Nat.{le-of-suc-le-suc, not-suc-le-zero}
 use lib.Dec.{lit<, eqb}
 use borrow.Author.Tests.{eqb-true}
 use lib.ListN.{length, getD}
-use Rattle.target.specs.Commands.{firstCommands, placeOf, rowOf, byteOf, endOf, otherEnd, firstOf, secondPlace, secondOf}
+use Rattle.target.specs.Commands.{firstCommands, placeOf, rowOf, byteOf, inPage, endOf, otherEnd, firstOf, secondPlace, secondOf}
 use Rattle.target.specs.Views.{endsWith}
 use Rattle.target.specs.declared.First.{First}
-use Rattle.target.specs.declared.First.the-variants.{Read, ChangeColumn, ChangeColumnEnhanced, Erase, Status, StatusEnhanced, Program, ReadId, ParameterPage, GetFeatures, SetFeatures, CopybackProgram}
+use Rattle.target.specs.declared.First.the-variants.{Read, ChangeColumn, ChangeColumnEnhanced, Erase, Status, StatusEnhanced, Program, ReadId, ParameterPage, GetFeatures, SetFeatures, CopybackProgram, ChangeColumnInPage}
 use Rattle.target.specs.declared.commands.FirstFound.{FirstFound}
 use Rattle.target.specs.declared.commands.FirstFound.the-variants as first
 use Rattle.target.specs.declared.commands.SecondFound.{SecondFound}
@@ -20,7 +20,7 @@ use Rattle.target.specs.declared.Second.{Second}
 use Rattle.target.specs.declared.Second.the-variants.{StartRead, StartOutput, StartProgram, StartErase, Move, StartCopyback}
 use Rattle.target.proofs.Both.{both, other}
 
-pub listed : (f : First) → placeOf f < 12
+pub listed : (f : First) → placeOf f < 13
 listed Read = lit< tt
 listed ChangeColumn = lit< tt
 listed ChangeColumnEnhanced = lit< tt
@@ -33,6 +33,7 @@ listed ParameterPage = lit< tt
 listed GetFeatures = lit< tt
 listed SetFeatures = lit< tt
 listed CopybackProgram = lit< tt
+listed ChangeColumnInPage = lit< tt
 
 pub second-listed : (s : Second) → secondPlace s < 6
 second-listed StartRead = lit< tt
@@ -56,6 +57,7 @@ standing ParameterPage = refl
 standing GetFeatures = refl
 standing SetFeatures = refl
 standing CopybackProgram = refl
+standing ChangeColumnInPage = refl
 
 abbrev pub every : (First → Bool) → List First → Bool
 every p [] = true
@@ -99,10 +101,11 @@ same-place f (first.Found x) h =
     let at : getD firstCommands (placeOf x) Read ≡ getD firstCommands (placeOf f) Read = ap (λ (n : ℕ). getD firstCommands n Read) (eqb-true (placeOf x) (placeOf f) h) in
     ap first.Found (sym (standing x) ∙ at ∙ standing f)
 
--- the byte of a first command names it
-named-test : (f : First) → foundAt (firstOf (byteOf f)) (placeOf f) ≡ true
+-- the byte of a first command names it, unless it is 05h within the parameter page
+named-test : (f : First) → (inPage f || foundAt (firstOf (byteOf f)) (placeOf f)) ≡ true
 unfolding rowOf firstOf
-named-test f = each-first (λ (x : First). foundAt (firstOf (byteOf x)) (placeOf x)) refl f
+named-test f = each-first (λ (x : First). inPage x || foundAt (firstOf (byteOf x)) (placeOf x)) refl f
 
-pub named : (f : First) → firstOf (byteOf f) ≡ first.Found f
-named f = same-place f (firstOf (byteOf f)) (named-test f)
+pub named : (f : First) → inPage f ≡ false → firstOf (byteOf f) ≡ first.Found f
+named f h =
+    same-place f (firstOf (byteOf f)) (other (inPage f) (foundAt (firstOf (byteOf f)) (placeOf f)) (named-test f) h)

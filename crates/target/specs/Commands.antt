@@ -9,7 +9,7 @@ use Rattle.target.specs.Pick.{pick}
 use Rattle.target.specs.Words.{hasOption}
 use Rattle.target.specs.declared.Words.{Words}
 use Rattle.target.specs.declared.First.{First}
-use Rattle.target.specs.declared.First.the-variants.{Read, ChangeColumn, ChangeColumnEnhanced, Erase, Status, StatusEnhanced, Program, ReadId, ParameterPage, GetFeatures, SetFeatures, CopybackProgram}
+use Rattle.target.specs.declared.First.the-variants.{Read, ChangeColumn, ChangeColumnEnhanced, Erase, Status, StatusEnhanced, Program, ReadId, ParameterPage, GetFeatures, SetFeatures, CopybackProgram, ChangeColumnInPage}
 use Rattle.target.specs.declared.Second.{Second}
 use Rattle.target.specs.declared.Second.the-variants.{StartRead, StartOutput, StartProgram, StartErase, Move, StartCopyback}
 use Rattle.target.specs.declared.commands.Class.{Class}
@@ -34,9 +34,10 @@ use Rattle.target.specs.declared.commands.SecondFound.the-variants as se
 -- the short list: byte, address cycles, second command (0 where there is none) and another that may stand for it (0 where there is
 -- none), which fields of its row are looked at, what follows its addresses, whether 5 is asked of its LUN, which LUNs 6 waits for,
 -- whether it clears registers, whether its row closes the LUN's copyback, whether its row wants one that is open there, the addresses
--- that a lone address cycle may have, and the optional bit that offers it (16: every part has it)
-abbrev pub firstRow : ℕ → ℕ → ℕ → ℕ → Looks → Then → Bool → Waits → Bool → Bool → Bool → ℕ → ℕ → ℕ → FirstRow
-firstRow b n s alt l t r w c k p x y o = record {
+-- that a lone address cycle may have, the optional bit that offers it (16: every part has it), and whether its column is one of the
+-- parameter page
+abbrev pub firstRow : ℕ → ℕ → ℕ → ℕ → Looks → Then → Bool → Waits → Bool → Bool → Bool → ℕ → ℕ → ℕ → Bool → FirstRow
+firstRow b n s alt l t r w c k p x y o m = record {
   byte = b;
   cycles = n;
   second = s;
@@ -51,22 +52,24 @@ firstRow b n s alt l t r w c k p x y o = record {
   one = x;
   other = y;
   option = o;
+  page = m;
 }
 
 abbrev pub firsts : List FirstRow
 firsts =
-    firstRow 0x00 5 0x30 0x35 looks.Page then.Second true waits.Nobody false false false 0x00 0x00 16
-    ∷ firstRow 0x05 2 0xe0 0x00 looks.Nothing then.Second true waits.Nobody false false false 0x00 0x00 16
-    ∷ firstRow 0x06 5 0xe0 0x00 looks.Lun then.Second true waits.Nobody false false false 0x00 0x00 6
-    ∷ firstRow 0x60 3 0xd0 0x00 looks.Block then.Second true waits.Nobody false false false 0x00 0x00 16
-    ∷ firstRow 0x70 0 0x00 0x00 looks.Nothing then.Status false waits.Others false false false 0x00 0x00 16
-    ∷ firstRow 0x78 3 0x00 0x00 looks.Lun then.Status false waits.Nobody false false false 0x00 0x00 3
-    ∷ firstRow 0x80 5 0x10 0x00 looks.Page then.Data true waits.Nobody true true false 0x00 0x00 16
-    ∷ firstRow 0x90 1 0x00 0x00 looks.Nothing then.Id false waits.All false false false 0x00 0x20 16
-    ∷ firstRow 0xec 1 0x00 0x00 looks.Nothing then.ParameterPage false waits.All false false false 0x00 0x00 16
-    ∷ firstRow 0xee 1 0x00 0x00 looks.Nothing then.FeatureOut false waits.All false false false 0x01 0x01 2
-    ∷ firstRow 0xef 1 0x00 0x00 looks.Nothing then.FeatureIn false waits.All false false false 0x01 0x01 2
-    ∷ firstRow 0x85 5 0x10 0x00 looks.Page then.Data true waits.Nobody false false true 0x00 0x00 4
+    firstRow 0x00 5 0x30 0x35 looks.Page then.Second true waits.Nobody false false false 0x00 0x00 16 false
+    ∷ firstRow 0x05 2 0xe0 0x00 looks.Nothing then.Second true waits.Nobody false false false 0x00 0x00 16 false
+    ∷ firstRow 0x06 5 0xe0 0x00 looks.Lun then.Second true waits.Nobody false false false 0x00 0x00 6 false
+    ∷ firstRow 0x60 3 0xd0 0x00 looks.Block then.Second true waits.Nobody false false false 0x00 0x00 16 false
+    ∷ firstRow 0x70 0 0x00 0x00 looks.Nothing then.Status false waits.Others false false false 0x00 0x00 16 false
+    ∷ firstRow 0x78 3 0x00 0x00 looks.Lun then.Status false waits.Nobody false false false 0x00 0x00 3 false
+    ∷ firstRow 0x80 5 0x10 0x00 looks.Page then.Data true waits.Nobody true true false 0x00 0x00 16 false
+    ∷ firstRow 0x90 1 0x00 0x00 looks.Nothing then.Id false waits.All false false false 0x00 0x20 16 false
+    ∷ firstRow 0xec 1 0x00 0x00 looks.Nothing then.ParameterPage false waits.All false false false 0x00 0x00 16 false
+    ∷ firstRow 0xee 1 0x00 0x00 looks.Nothing then.FeatureOut false waits.All false false false 0x01 0x01 2 false
+    ∷ firstRow 0xef 1 0x00 0x00 looks.Nothing then.FeatureIn false waits.All false false false 0x01 0x01 2 false
+    ∷ firstRow 0x85 5 0x10 0x00 looks.Page then.Data true waits.Nobody false false true 0x00 0x00 4 false
+    ∷ firstRow 0x05 2 0xe0 0x00 looks.Nothing then.Second false waits.Nobody false false false 0x00 0x00 16 true
     ∷ []
 
 -- the place of a first command in that list
@@ -83,15 +86,16 @@ placeOf ParameterPage = 8
 placeOf GetFeatures = 9
 placeOf SetFeatures = 10
 placeOf CopybackProgram = 11
+placeOf ChangeColumnInPage = 12
 
 -- the commands in the list's order
 abbrev pub firstCommands : List First
-firstCommands = Read ∷ ChangeColumn ∷ ChangeColumnEnhanced ∷ Erase ∷ Status ∷ StatusEnhanced ∷ Program ∷ ReadId ∷ ParameterPage ∷ GetFeatures ∷ SetFeatures ∷ CopybackProgram ∷ []
+firstCommands = Read ∷ ChangeColumn ∷ ChangeColumnEnhanced ∷ Erase ∷ Status ∷ StatusEnhanced ∷ Program ∷ ReadId ∷ ParameterPage ∷ GetFeatures ∷ SetFeatures ∷ CopybackProgram ∷ ChangeColumnInPage ∷ []
 
 unfoldable pub rowOf : First → FirstRow
 rowOf f =
     getD firsts (placeOf f)
-    (firstRow 0 0 0 0 looks.Nothing then.Second false waits.Nobody false false false 0 0 0)
+    (firstRow 0 0 0 0 looks.Nothing then.Second false waits.Nobody false false false 0 0 0 false)
 
 abbrev pub byteOf : First → ℕ
 byteOf f = rowOf f .byte
@@ -127,6 +131,10 @@ closesCopyback f = rowOf f .closes
 abbrev pub needsCopyback : First → Bool
 needsCopyback f = rowOf f .copies
 
+-- its column is one of the parameter page
+abbrev pub inPage : First → Bool
+inPage f = rowOf f .page
+
 abbrev pub knowsAddress : First → ℕ → Bool
 knowsAddress f v = eqb v (rowOf f .one) || eqb v (rowOf f .other)
 
@@ -158,11 +166,24 @@ isData then.Id = false
 isData then.ParameterPage = false
 isData then.FeatureOut = false
 
+abbrev pub isStatus : Then → Bool
+isStatus then.Second = false
+isStatus then.Data = false
+isStatus then.FeatureIn = false
+isStatus then.Status = true
+isStatus then.Id = false
+isStatus then.ParameterPage = false
+isStatus then.FeatureOut = false
+
+-- 70h and 78h: a status comes out
+abbrev pub givesStatus : First → Bool
+givesStatus f = isStatus (thenOf f)
+
 -- 80h and 85h: data goes in once the addresses have come
 abbrev pub takesProgramData : First → Bool
 takesProgramData f = isData (thenOf f)
 
--- the first command of the list with this byte
+-- the first command of the list with this byte; 05h stands there twice, and the place reached says which of the two it is
 abbrev pub firstIn : List First → ℕ → FirstFound
 firstIn [] v = first.Nothing
 firstIn (f ∷ fs) v = pick (eqb v (byteOf f)) (first.Found f) (firstIn fs v)

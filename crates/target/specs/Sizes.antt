@@ -2,11 +2,16 @@
 use Prim.Native.Nat.{ℕ, _+_, _*_}
 use mathlib.Core.Bool.{Bool, _&&_}
 use lib.Dec.{eqb, leb}
+use Rattle.target.specs.Pick.{pick}
 use Rattle.target.specs.declared.Geometry.{Geometry}
 
 -- page size P is data plus spare
 unfoldable pub pageSize : Geometry → ℕ
 pageSize g = g .bytes + g .spare
+
+-- columns are below P; those of the parameter page, which comes three times over, below 768
+abbrev pub columnEnd : Geometry → Bool → ℕ
+columnEnd g page = pick page 768 (pageSize g)
 
 abbrev pub within : ℕ → ℕ → ℕ → Bool
 within low x high = leb low x && leb x high

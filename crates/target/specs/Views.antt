@@ -5,7 +5,7 @@ use mathlib.Core.Bool.{Bool, true, false, _&&_, _||_, not}
 use lib.Dec.{eqb}
 use Rattle.target.specs.Pick.{pick}
 use Rattle.target.specs.Address.{columnFrom, rowFrom}
-use Rattle.target.specs.Commands.{endOf, otherEnd, needsReady, takesRow, secondOf}
+use Rattle.target.specs.Commands.{endOf, otherEnd, needsReady, takesRow, inPage, secondOf}
 use Rattle.target.specs.declared.Column.{Column}
 use Rattle.target.specs.declared.Row.{Row}
 use Rattle.target.specs.declared.First.{First}
@@ -20,7 +20,7 @@ use Rattle.target.specs.declared.views.Taker.the-variants as takes
 use Rattle.target.specs.declared.views.Ender.{Ender}
 use Rattle.target.specs.declared.views.Ender.the-variants as ends
 
--- 05h has no row: 5 is asked of the selected LUN, with its second column cycle
+-- 05h has no row: 5 is asked of the selected LUN, with its second column cycle; within the parameter page it is not asked
 abbrev pub asksSelected : First → Bool
 asksSelected f = needsReady f && not (takesRow f)
 
@@ -28,14 +28,15 @@ asksSelected f = needsReady f && not (takesRow f)
 abbrev pub completed : Sequence → ℕ → Given
 completed Idle v = completes.Nothing
 completed (Columns k) v =
-    pick (eqb (k .got) 1) (completes.Column (record { column = columnFrom (k .low) v; asks = asksSelected (k .first) })) completes.Nothing
+    pick (eqb (k .got) 1) (completes.Column (record { column = columnFrom (k .low) v; asks = asksSelected (k .first); page = inPage (k .first) }))
+    completes.Nothing
 completed (Rows k) v =
     pick (eqb (k .got) 2) (completes.Row (record { first = k .first; row = rowFrom (k .low) (k .mid) v })) completes.Nothing
 completed (Single f) v = completes.Single (record { first = f; value = v })
 completed (Due k) v = completes.Nothing
 completed (Filling k) v = completes.Nothing
 completed (Moving k) v =
-    pick (eqb (k .got) 1) (completes.Column (record { column = columnFrom (k .low) v; asks = false })) completes.Nothing
+    pick (eqb (k .got) 1) (completes.Column (record { column = columnFrom (k .low) v; asks = false; page = false })) completes.Nothing
 completed (Setting k) v = completes.Nothing
 
 -- data goes into a program, or is EFh's four bytes

@@ -4,7 +4,7 @@ use crate::Second;
 use crate::Words;
 use crate::bits::has_option;
 ghost use mathlib.Core.Path.{_≡_};
-ghost use Rattle.target.specs.Commands.{classOf, isFirst, isKnown, firstOf, placeOf, rowOf, cyclesOf, endOf, looksOf, thenOf, needsReady, waitsFor, clearsRegister, knowsAddress, takesColumn, takesRow, waitsSecond, secondPlace, secondRow, secondOf, offeredTo, offeredFound, offeredSecond, isSecondFound, offered, otherEnd, closesCopyback, needsCopyback, takesProgramData};
+ghost use Rattle.target.specs.Commands.{classOf, isFirst, isKnown, firstOf, placeOf, rowOf, byteOf, cyclesOf, endOf, looksOf, thenOf, needsReady, waitsFor, clearsRegister, knowsAddress, takesColumn, takesRow, waitsSecond, secondPlace, secondRow, secondOf, offeredTo, offeredFound, offeredSecond, isSecondFound, offered, otherEnd, closesCopyback, needsCopyback, takesProgramData, givesStatus, inPage};
 
 // Each command byte has one class; optional bits don't count.
 pub enum Class {
@@ -382,9 +382,11 @@ pub struct FirstRow {
     pub other: u8,
     // the bit of the optional-command word that offers it; 16 where every part has it
     pub option: u8,
+    // its column is one of the parameter page
+    pub page: bool,
 }
 
-const FIRSTS: [FirstRow; 12] = [
+const FIRSTS: [FirstRow; 13] = [
     FirstRow {
         byte: 0x00,
         cycles: 5,
@@ -400,6 +402,7 @@ const FIRSTS: [FirstRow; 12] = [
         one: 0x00,
         other: 0x00,
         option: 16,
+        page: false,
     },
     FirstRow {
         byte: 0x05,
@@ -416,6 +419,7 @@ const FIRSTS: [FirstRow; 12] = [
         one: 0x00,
         other: 0x00,
         option: 16,
+        page: false,
     },
     FirstRow {
         byte: 0x06,
@@ -432,6 +436,7 @@ const FIRSTS: [FirstRow; 12] = [
         one: 0x00,
         other: 0x00,
         option: 6,
+        page: false,
     },
     FirstRow {
         byte: 0x60,
@@ -448,6 +453,7 @@ const FIRSTS: [FirstRow; 12] = [
         one: 0x00,
         other: 0x00,
         option: 16,
+        page: false,
     },
     FirstRow {
         byte: 0x70,
@@ -464,6 +470,7 @@ const FIRSTS: [FirstRow; 12] = [
         one: 0x00,
         other: 0x00,
         option: 16,
+        page: false,
     },
     FirstRow {
         byte: 0x78,
@@ -480,6 +487,7 @@ const FIRSTS: [FirstRow; 12] = [
         one: 0x00,
         other: 0x00,
         option: 3,
+        page: false,
     },
     FirstRow {
         byte: 0x80,
@@ -496,6 +504,7 @@ const FIRSTS: [FirstRow; 12] = [
         one: 0x00,
         other: 0x00,
         option: 16,
+        page: false,
     },
     FirstRow {
         byte: 0x90,
@@ -512,6 +521,7 @@ const FIRSTS: [FirstRow; 12] = [
         one: 0x00,
         other: 0x20,
         option: 16,
+        page: false,
     },
     FirstRow {
         byte: 0xec,
@@ -528,6 +538,7 @@ const FIRSTS: [FirstRow; 12] = [
         one: 0x00,
         other: 0x00,
         option: 16,
+        page: false,
     },
     FirstRow {
         byte: 0xee,
@@ -544,6 +555,7 @@ const FIRSTS: [FirstRow; 12] = [
         one: 0x01,
         other: 0x01,
         option: 2,
+        page: false,
     },
     FirstRow {
         byte: 0xef,
@@ -560,6 +572,7 @@ const FIRSTS: [FirstRow; 12] = [
         one: 0x01,
         other: 0x01,
         option: 2,
+        page: false,
     },
     FirstRow {
         byte: 0x85,
@@ -576,6 +589,24 @@ const FIRSTS: [FirstRow; 12] = [
         one: 0x00,
         other: 0x00,
         option: 4,
+        page: false,
+    },
+    FirstRow {
+        byte: 0x05,
+        cycles: 2,
+        second: 0xe0,
+        or: 0x00,
+        looks: Looks::Nothing,
+        then: Then::Second,
+        ready: false,
+        waits: Waits::Nobody,
+        clears: false,
+        closes: false,
+        copies: false,
+        one: 0x00,
+        other: 0x00,
+        option: 16,
+        page: true,
     },
 ];
 
@@ -585,7 +616,7 @@ pub enum FirstFound {
     Found(First),
 }
 
-// The first command with this byte.
+// The first command with this byte; `place::first_here` says when 05h is the one within the parameter page.
 pub fn first_of(v: u8) -> FirstFound
     ensures { λ r. ⌜ r ≡ firstOf v ⌝ }
 {
@@ -623,6 +654,7 @@ pub fn place_of(f: First) -> usize
         First::GetFeatures => 9,
         First::SetFeatures => 10,
         First::CopybackProgram => 11,
+        First::ChangeColumnInPage => 12,
     }
 }
 
@@ -632,6 +664,13 @@ pub fn row_of(f: First) -> FirstRow
 {
     let i = place_of(f);
     FIRSTS[i]
+}
+
+pub fn byte_of(f: First) -> u8
+    ensures { λ r. ⌜ r ≡ byteOf f ⌝ }
+{
+    let row = row_of(f);
+    row.byte
 }
 
 pub fn cycles_of(f: First) -> u8
@@ -707,6 +746,14 @@ pub fn needs_copyback(f: First) -> bool
     row.copies
 }
 
+// Its column is one of the parameter page.
+pub fn in_page(f: First) -> bool
+    ensures { λ r. ⌜ r ≡ inPage f ⌝ }
+{
+    let row = row_of(f);
+    row.page
+}
+
 // The one address of 90h, ECh, EEh or EFh is one that it knows.
 pub fn knows_address(f: First, v: u8) -> bool
     ensures { λ b. ⌜ b ≡ knowsAddress f v ⌝ }
@@ -738,6 +785,21 @@ pub fn waits_second(f: First) -> bool
         Then::Data => false,
         Then::FeatureIn => false,
         Then::Status => false,
+        Then::Id => false,
+        Then::ParameterPage => false,
+        Then::FeatureOut => false,
+    }
+}
+
+// A status comes out.
+pub fn gives_status(f: First) -> bool
+    ensures { λ b. ⌜ b ≡ givesStatus f ⌝ }
+{
+    match then_of(f) {
+        Then::Second => false,
+        Then::Data => false,
+        Then::FeatureIn => false,
+        Then::Status => true,
         Then::Id => false,
         Then::ParameterPage => false,
         Then::FeatureOut => false,

@@ -81,6 +81,8 @@ pub enum First {
     SetFeatures,
     // 85h with no sequence open: what the register holds is programmed
     CopybackProgram,
+    // 05h while the parameter page is open, or kept behind a status: change read column within its 768 bytes
+    ChangeColumnInPage,
 }
 
 // The second commands; `commands::SECONDS` is their list.
@@ -175,6 +177,8 @@ pub enum Output {
 pub struct Decoder {
     pub sequence: Sequence,
     pub output: Output,
+    // the output that was open before a status: 00h and then data out go on from it
+    pub kept: Output,
 }
 
 pub struct Target {

@@ -1,14 +1,22 @@
 // The house limits on a geometry, and the lengths that a geometry gives the lent buffers.
 use crate::Geometry;
+use crate::picks::pick_number;
 ghost use mathlib.Core.Path.{_≡_};
 ghost use mathlib.Core.Bool.{true};
-ghost use Rattle.target.specs.Sizes.{pageSize, within, inLimits, sized};
+ghost use Rattle.target.specs.Sizes.{pageSize, columnEnd, within, inLimits, sized};
 
 // The page size P.
 pub fn page_size(g: Geometry) -> usize
     ensures { λ r. ⌜ r ≡ pageSize g ⌝ }
 {
     g.bytes as usize + g.spare as usize
+}
+
+// The end of the columns: of a page register, or of the parameter page.
+pub fn column_end(g: Geometry, page: bool) -> usize
+    ensures { λ r. ⌜ r ≡ columnEnd g page ⌝ }
+{
+    pick_number(page, 768, page_size(g))
 }
 
 pub fn within(low: usize, x: usize, high: usize) -> bool

@@ -11,6 +11,7 @@ use crate::address::column_from;
 use crate::address::row_from;
 use crate::commands::SecondFound;
 use crate::commands::end_of;
+use crate::commands::in_page;
 use crate::commands::needs_ready;
 use crate::commands::other_end;
 use crate::commands::second_of;
@@ -19,10 +20,12 @@ ghost use mathlib.Core.Path.{_≡_};
 ghost use Rattle.target.specs.Pick.{pick};
 ghost use Rattle.target.specs.Views.{asksSelected, completed, taking, ending, endedBy, endsWith};
 
-// A whole column; `asks` says that no row follows, so that 5 is asked of the selected LUN with it.
+// A whole column; `asks` says that no row follows, so that 5 is asked of the selected LUN with it; `page` that it is one of the
+// parameter page.
 pub struct ColumnGiven {
     pub column: Column,
     pub asks: bool,
+    pub page: bool,
 }
 
 // A whole row, and the command that it belongs to.
@@ -95,6 +98,7 @@ pub fn completed(s: Sequence, v: u8) -> Given
             let given = ColumnGiven {
                 column: column_from(k.low, v),
                 asks: asks_selected(f),
+                page: in_page(f),
             };
             pick_completed(k.got == 1, Given::Column(given), Given::Nothing)
         }
@@ -116,6 +120,7 @@ pub fn completed(s: Sequence, v: u8) -> Given
             let given = ColumnGiven {
                 column: column_from(k.low, v),
                 asks: false,
+                page: false,
             };
             pick_completed(k.got == 1, Given::Column(given), Given::Nothing)
         }

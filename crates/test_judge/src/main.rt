@@ -80,7 +80,7 @@ fn one_line(
 ) {
     let mut g = [0usize; 80];
     g[place::SHOW] = shown;
-    if line < 352 {
+    if line < 374 {
         run_line(
             &mut g,
             seed,
@@ -109,7 +109,7 @@ fn one_line(
             flags,
         );
     }
-    print_line(&g, line / 16, line % 16);
+    print_line(&g, line / 17, line % 17);
     add_up(total, &g);
 }
 
@@ -146,11 +146,11 @@ fn all_lines(shown: usize, seed: usize, count: usize, first: usize, end: usize) 
 
 fn main() {
     if is_shown() {
-        let line = add(times(argument(2, 0), 16), argument(3, 0));
+        let line = add(times(argument(2, 0), 17), argument(3, 0));
         all_lines(1, argument(4, 1), argument(5, 1), line, add(line, 1));
     } else {
         print_heading();
-        let total = all_lines(0, argument(1, 1), argument(2, 1), 0, 356);
+        let total = all_lines(0, argument(1, 1), argument(2, 1), 0, 378);
         print_totals(&total);
     }
 }

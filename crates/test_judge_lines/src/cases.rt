@@ -95,7 +95,7 @@ const LIMITS: [LimitRow; 58] = [
     LimitRow(field::MANY, 0),
     LimitRow(field::MANY, 1),
     LimitRow(field::OPTIONS, 0),
-    LimitRow(field::OPTIONS, 31),
+    LimitRow(field::OPTIONS, 63),
 ];
 
 fn limit_row(i: usize) -> LimitRow {
@@ -174,7 +174,7 @@ fn bad_page_length(g: &mut State) {
 
 fn every_job(g: &mut State, records: &mut Bytes) {
     let mut job: usize = 0;
-    while job < 20 {
+    while job < 25 {
         one_job(g, records, job);
         job += 1;
     }
@@ -414,7 +414,7 @@ pub fn run_power_line(
     counts: &mut Bytes,
     flags: &mut Bytes,
 ) {
-    let kind = line % 16;
+    let kind = line % 17;
     fill_with(page, 260, 0);
     seed_line(g, seed, line);
     load_knobs(g, 11);

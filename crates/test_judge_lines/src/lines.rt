@@ -177,10 +177,10 @@ pub fn run_line(
     counts: &mut Bytes,
     flags: &mut Bytes,
 ) {
-    let kind = line % 16;
+    let kind = line % 17;
     fill_with(page, 260, 0);
     seed_line(g, seed, line);
-    load_part(g, line / 16);
+    load_part(g, line / 17);
     load_knobs(g, kind);
     fill_buffers(g, array, registers, counts, flags);
     let traces = times(g[knob::TRACES], count);

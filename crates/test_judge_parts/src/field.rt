@@ -10,7 +10,7 @@ pub const BLOCKS: usize = 22;
 pub const LUNS: usize = 23;
 
 pub const PROGRAMS: usize = 24;
-// 1: 78h, 2: 06h, 4: EEh and EFh, 8: 40h, 16: copyback
+// 1: 78h, 2: 06h, 4: EEh and EFh, 8: 40h, 16: copyback, 32: any order
 pub const OPTIONS: usize = 25;
 // array: 0 FFh, 1 random
 pub const FILL: usize = 26;

@@ -134,11 +134,12 @@ pub fn mend_crc(page: &mut [u8]) {
 // Bits that the model does not look at are random, like all other bytes.
 fn feature_bits(g: &mut State) -> usize {
     let options = g[field::OPTIONS];
-    let low = below(g, 64);
+    let low = below(g, 32);
     let high = below(g, 128);
     g[field::WIDE] % 2
         + g[field::MANY] % 2 * 2
-        + low % 64 * 4
+        + options / 32 % 2 * 4
+        + low % 32 * 8
         + options / 8 % 2 * 256
         + high % 128 * 512
 }

@@ -6,7 +6,9 @@ use crate::spoils::spoil_length;
 use crate::spoils::spoiled;
 use power::Powered;
 use power::power_number;
+use slices::part_of;
 use target::Event;
+use target::Output;
 use target::Target;
 use target::records::copyback_at;
 use target::reply_first;
@@ -42,7 +44,6 @@ use test_lent::lent_run;
 use test_lent::lent_step;
 use trace::run_number;
 use unread::Source;
-use unread::part_of;
 use unread::unread_part;
 
 // What is lent, as the state says.
@@ -245,7 +246,7 @@ fn absorb_rest<'a>(t: Target, g: &mut State, page: &'a [u8], registers: &'a [u8]
     show(g, b" rest ", which, u.at, u.count, 0);
 }
 
-// The record's numbers that no reply need show: which LUNs have a copyback open.
+// The record's numbers that no reply need show: which LUNs have a copyback open, and what is kept behind a status.
 fn absorb_record(t: Target, g: &mut State) {
     let luns = t.luns;
     let a = mark(copyback_at(luns, 0));
@@ -257,6 +258,26 @@ fn absorb_record(t: Target, g: &mut State) {
     absorb(g, c);
     absorb(g, d);
     show(g, b" copybacks ", a, b, c, d);
+    let decoder = t.decoder;
+    let output = decoder.kept;
+    let kept = kept_place(output);
+    absorb(g, kept[0]);
+    absorb(g, kept[1]);
+    absorb(g, kept[2]);
+    show(g, b" kept ", kept[0], kept[1], kept[2], 0);
+}
+
+// The kind of an output, its LUN and its next place.
+fn kept_place(o: Output) -> [usize; 3] {
+    match o {
+        Output::Nothing => [0, 0, 0],
+        Output::Register { lun, column } => [1, lun, column.0],
+        Output::Parameters { at } => [2, 0, at],
+        Output::Status { lun } => [3, lun, 0],
+        Output::Ids { at } => [4, 0, at],
+        Output::Signature { at } => [5, 0, at],
+        Output::Feature { at } => [6, 0, at],
+    }
 }
 
 fn mark(on: bool) -> usize {

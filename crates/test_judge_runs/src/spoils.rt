@@ -1,5 +1,6 @@
 // Spoiled records, each with one number that no run gives it, and their legal neighbours.
 use target::Column;
+use target::ColumnCycles;
 use target::Decoder;
 use target::FeatureBytes;
 use target::Fill;
@@ -135,6 +136,42 @@ fn spoil_output(g: Geometry, what: usize) -> Output {
     }
 }
 
+// Spoils of what is kept behind a status, and from 63 on their legal neighbours.
+fn spoil_kept(g: Geometry, what: usize) -> Output {
+    let lun = sub(g.luns, 1);
+    let end = page_size(g);
+    match what {
+        55 => spoil_output(g, 18),
+        56 => spoil_output(g, 19),
+        57 => Output::Status { lun: 0 },
+        58..=61 => spoil_output(g, sub(what, 37)),
+        63 => Output::Register {
+            lun,
+            column: Column(end),
+        },
+        64..=67 => spoil_output(g, sub(what, 38)),
+        _ => Output::Register {
+            lun,
+            column: Column(sub(end, 1)),
+        },
+    }
+}
+
+// A bare 00h, with this kept.
+fn with_kept(t: Target, kept: Output) -> Target {
+    let bare = ColumnCycles {
+        first: First::Read,
+        got: 0,
+        low: 0,
+    };
+    let decoder = Decoder {
+        sequence: Sequence::Columns(bare),
+        output: Output::Nothing,
+        kept,
+    };
+    Target { decoder, ..t }
+}
+
 // A sequence whose addresses have all come: its second command is due, or it takes data.
 fn due(first: First, column: usize, row: usize) -> Sequence {
     let wait = Wait {
@@ -188,6 +225,7 @@ fn spoil_sequence(p: Geometry, g: &State, what: usize) -> Sequence {
         42 => moving(First::Program, past),
         50 => filling(First::CopybackProgram, 0, add(end, 1)),
         51 => filling(First::CopybackProgram, past, 0),
+        62 => due(First::ChangeColumnInPage, 768, 0),
         _ => moving(First::CopybackProgram, past),
     }
 }
@@ -209,6 +247,7 @@ fn legal_sequence(p: Geometry, g: &State, what: usize) -> Sequence {
             row_of(g, lun, block, page),
         ),
         46 => due(First::Read, column, row_of(g, lun, last, sub(p.pages, 1))),
+        69 => due(First::ChangeColumnInPage, 767, 0),
         _ => filling(
             First::CopybackProgram,
             row_of(g, lun, last, sub(p.pages, 1)),
@@ -221,6 +260,7 @@ fn with_output(t: Target, output: Output) -> Target {
     let decoder = Decoder {
         sequence: Sequence::Idle,
         output,
+        kept: Output::Nothing,
     };
     Target { decoder, ..t }
 }
@@ -229,6 +269,7 @@ fn with_sequence(t: Target, sequence: Sequence) -> Target {
     let decoder = Decoder {
         sequence,
         output: Output::Nothing,
+        kept: Output::Nothing,
     };
     Target { decoder, ..t }
 }
@@ -246,7 +287,8 @@ pub fn spoiled(t: Target, g: &State, what: usize) -> Target {
             Target { words, ..t }
         }
         18..=29 => with_output(t, spoil_output(p, what)),
-        31..=42 | 50..=52 => with_sequence(t, spoil_sequence(p, g, what)),
+        31..=42 | 50..=52 | 62 => with_sequence(t, spoil_sequence(p, g, what)),
+        55..=61 | 63..=68 => with_kept(t, spoil_kept(p, what)),
         _ => with_sequence(t, legal_sequence(p, g, what)),
     }
 }
@@ -277,7 +319,7 @@ fn fills_bits(n: usize) -> bool {
 
 // Some spoils can't be written down for every part.
 pub fn pick_spoil(g: &mut State) -> usize {
-    let what = below(g, 55);
+    let what = below(g, 70);
     if (g[field::LUNS] == 4) & ((what == 12) | (what == 30) | (what == 47)) {
         return 11;
     }
@@ -294,5 +336,9 @@ pub fn pick_spoil(g: &mut State) -> usize {
 }
 
 pub fn is_legal(what: usize) -> bool {
-    ((25 <= what) & (what <= 29)) | ((43 <= what) & (what <= 46)) | (53 <= what)
+    ((25 <= what) & (what <= 29))
+        | ((43 <= what) & (what <= 46))
+        | (what == 53)
+        | (what == 54)
+        | (63 <= what)
 }

@@ -32,7 +32,7 @@ pub fn is_busy(g: &State, lun: usize) -> bool {
     }
 }
 
-fn set_busy(g: &mut State, lun: usize) {
+pub fn set_busy(g: &mut State, lun: usize) {
     if !is_busy(g, lun) {
         g[place::BUSY] = add(g[place::BUSY], power(lun));
     }
@@ -168,7 +168,8 @@ fn edge_row(g: &mut State, lun: usize, block: usize, page: usize) -> usize {
     row_of(g, lun, block, page)
 }
 
-fn spot(knob: usize, n: usize) -> usize {
+// How many of n there are to pick from.
+pub fn spot(knob: usize, n: usize) -> usize {
     if knob == 1 { at_most(n, 2) } else { n }
 }
 

@@ -53,27 +53,28 @@ fn job_of(digit: usize) -> usize {
     }
 }
 
-// The mix of jobs of each kind of trace: twenty jobs, a digit each, four kinds in a row. Kinds 7 and 8 are noise, and have
+// The mix of jobs of each kind of trace: 26 jobs, a digit each, four kinds in a row. Kinds 7 and 8 are noise, and have
 // none.
 fn mix(kind: usize, i: usize) -> usize {
-    let at = add(kind % 4 * 20, i);
+    let at = add(kind % 4 * 26, i);
     let digit = match kind / 4 {
         0 => get(
-            b"0012333456789AEFGGIJ000112333445556EGGHI0012333456789AAEGGIJ333444BBBB650EACGGII",
+            b"0012333456789AEFGGIJKLMNOO000112333445556EGGHIKLMNOO0012333456789AAEGGIJKLMNOO333444BBBB650EACGGIIKLMNOO",
             at,
         ),
         1 => get(
-            b"011223337789AE52GGGJ99AAAA33301E2C45GGHJ0012333456789AEFGGIJ00000000000000000000",
+            b"011223337789AE52GGGJKLMNOO99AAAA33301E2C45GGHJKLMNOO0012333456789AEFGGIJKLMNOO00000000000000000000000000",
             at,
         ),
         2 => get(
-            b"0000000000000000000001233455667789ADGHIJ0012333456789AECGGIJ0012333456789AECGGIJ",
+            b"0000000000000000000000000001233455667789ADGHIJKLMNOO0012333456789AECGGIJKLMNOO0012333456789AECGGIJKLMNOO",
             at,
         ),
-        _ => get(
-            b"001122334455789AGHIJ001122334566789AGHIJ333344EEFFFF560EGGHI0123456789ABCDEFGHIJ",
+        3 => get(
+            b"001122334455789AGHIJKLMNOO001122334566789AGHIJKLMNOO333344EEFFFF560EGGHIKLMNOO0123456789ABCDEFGHIJKLMNOO",
             at,
         ),
+        _ => get(b"KKKKKKKKKLLLMMMNN03456EGOK", at),
     };
     job_of(digit)
 }
@@ -224,7 +225,7 @@ fn make_wrong(g: &mut State, records: &mut Bytes, from: usize) {
 
 fn put_job(g: &mut State, records: &mut Bytes, kind: usize) {
     let from = g[place::LEN];
-    let job = mix(kind, below(g, 20));
+    let job = mix(kind, below(g, 26));
     one_job(g, records, job);
     if sometimes(g, knob::WRONG) {
         make_wrong(g, records, from);

@@ -98,6 +98,13 @@ fn folders() {
         b"",
         b"copyback",
     );
+    tried(
+        b"explain third, polling",
+        Asked::Explain,
+        b"third",
+        b"",
+        b"polling",
+    );
 }
 
 fn main() {

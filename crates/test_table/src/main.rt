@@ -182,5 +182,8 @@ fn main() {
     new_word(&mut n);
     let size = load(b"table", &mut text);
     table(&text, size, &mut n);
+    // its lines are counted on from the first file's
+    let size = load(b"table2", &mut text);
+    table(&text, size, &mut n);
     summary(&n);
 }

@@ -15,6 +15,7 @@ use target::Wait;
 use target::Words;
 use target::commands::FirstFound;
 use target::commands::first_of;
+use test_kit::numbers::sub;
 
 fn sized(g: Geometry, field: usize, v: usize) -> Geometry {
     match field {
@@ -166,12 +167,27 @@ fn sequence(field: usize, v: usize) -> Sequence {
         36 => due(First::ChangeColumn, v, 0),
         37 => due(First::Erase, 0, v),
         41 => setting(v),
+        47 => due(First::ChangeColumnInPage, v, 0),
         _ => program(field, v),
     }
 }
 
 fn held(t: Target, sequence: Sequence, output: Output) -> Target {
-    let decoder = Decoder { sequence, output };
+    let decoder = Decoder {
+        sequence,
+        output,
+        kept: Output::Nothing,
+    };
+    Target { decoder, ..t }
+}
+
+// A status of LUN 0 is open, and this is kept behind it.
+fn behind(t: Target, kept: Output) -> Target {
+    let decoder = Decoder {
+        sequence: Sequence::Idle,
+        output: Output::Status { lun: 0 },
+        kept,
+    };
     Target { decoder, ..t }
 }
 
@@ -196,6 +212,7 @@ pub fn spoiled(t: Target, field: usize, v: usize) -> Target {
         }
         11..=12 => copying(t, field, v),
         16..=22 => held(t, Sequence::Idle, output(field, v)),
+        48..=54 => behind(t, output(sub(field, 32), v)),
         _ => held(t, sequence(field, v), Output::Nothing),
     }
 }

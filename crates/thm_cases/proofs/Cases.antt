@@ -5,7 +5,7 @@ use mathlib.Core.Bool.{Bool, true, _&&_}
 use Prim.Native.Nat.{ℕ, _*_}
 use lib.Dec.{eqb}
 use borrow.Author.Tests.{eqb-true}
-use Rattle.slices.specs.Cells.{splice, part, andBytes, allAtMost}
+use Rattle.slices.specs.Cells.{splice, part, andBytes, allAtMost, someSet}
 use Rattle.target.specs.Pick.{orElse}
 use Rattle.target.specs.Events.{badRecord}
 use Rattle.target.specs.Commands.{rowOf, firstOf, secondRow, secondOf, classOf, offered}
@@ -16,9 +16,9 @@ use Rattle.target.specs.declared.Geometry.{Geometry}
 use Rattle.target.proofs.Both.{both}
 use Rattle.page.specs.Crc.{crcBit, crcBits, crcByte, crcFrom, crcOf}
 use Rattle.rules.specs.Rules.{unknown, beforeReset, fits, misplaced, outOfRange, lunWorks, noCopyback, othersBusy, lineLow, pastEnd, notOffered, notWorking, lineHeld, rules, verdict}
-use Rattle.effects.specs.Effects.{sequenceAfter, outputAfter, lunsAfter, selectedAfter, clearAfter, highAfter, targetAfter, targetRefused, workOf}
+use Rattle.effects.specs.Effects.{sequenceAfter, outputAfter, keptAfter, lunsAfter, selectedAfter, clearAfter, highAfter, targetAfter, targetRefused, workOf}
 use Rattle.step.specs.Usable.{recordSound, usable}
-use Rattle.step.specs.Buffers.{blockIndex, pageIndex, registersAfter, arrayAfter, countsAfter, blockBad, pageFull, findings, statusOf, outputByte}
+use Rattle.step.specs.Buffers.{blockIndex, pageIndex, registersAfter, arrayAfter, countsAfter, blockBad, pageFull, higherWritten, outOfOrder, findings, statusOf, outputByte}
 use Rattle.step.specs.Step.{replyOf, worked, acceptedBy, accepted, byVerdict, steady, stepOf}
 use Rattle.page.specs.Page.{field, bitOf as pageBit, signed, features, optionalCommands, makerId, dataBytes, spareBytes, pagesABlock, blocksALun, lunCount, addressCycles, programsAPage, storedCrc, crcGood, dataInLimits, spareInLimits, pagesInLimits, blocksInLimits, lunsInLimits, lunsAsFeatured, narrowBus, cyclesAsHouse, programsInLimits, fieldsInLimits}
 use Rattle.power.specs.Power.{geometryOf, wordsOf, poweredOf, wrongLength, unsigned, crcBad, fieldBad, bufferBad, contentBad, orRefused, powerAnswer, powerOf}
@@ -33,7 +33,7 @@ powers = tt
 
 -- and so is every definition of a run
 unfoldable pub computes : Unit {0}
-unfolding powers splice part andBytes orElse badRecord rowOf firstOf secondRow secondOf classOf offered bitsOf fieldWidth columnFrom rowFrom lunOf pageOf blockOf lunExists blockExists rowExists inLimits unknown beforeReset fits misplaced outOfRange lunWorks noCopyback othersBusy lineLow pastEnd notOffered notWorking lineHeld rules verdict sequenceAfter outputAfter lunsAfter selectedAfter clearAfter highAfter targetAfter targetRefused workOf recordSound usable blockIndex pageIndex registersAfter arrayAfter countsAfter blockBad pageFull findings statusOf outputByte replyOf worked acceptedBy accepted byVerdict steady stepOf written oneMore ranAll eventsOf standsUsable oddAnswered needed traceOf
+unfolding powers splice part andBytes orElse badRecord rowOf firstOf secondRow secondOf classOf offered bitsOf fieldWidth columnFrom rowFrom lunOf pageOf blockOf lunExists blockExists rowExists inLimits unknown beforeReset fits misplaced outOfRange lunWorks noCopyback othersBusy lineLow pastEnd notOffered notWorking lineHeld rules verdict sequenceAfter outputAfter keptAfter lunsAfter selectedAfter clearAfter highAfter targetAfter targetRefused workOf recordSound usable blockIndex pageIndex registersAfter arrayAfter countsAfter blockBad pageFull higherWritten outOfOrder someSet findings statusOf outputByte replyOf worked acceptedBy accepted byVerdict steady stepOf written oneMore ranAll eventsOf standsUsable oddAnswered needed traceOf
 computes = tt
 
 -- (a): the length that `sized` asks for

@@ -27,4 +27,8 @@ edges = record {
   fuller = refl;
   full-count = refl;
   extent = refl;
+  goes-on = refl;
+  gone = refl;
+  in-page = refl;
+  past-page = refl;
 }

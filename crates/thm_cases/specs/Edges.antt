@@ -1,5 +1,6 @@
--- The promises of demand 1 and of the refusals that no event gets, each at its edge: a run on T1 from power-on, with what
--- is told and left. The promises themselves are statements of crate `thm_demands`; here each is computed once.
+-- The promises of demand 1, of the refusals that no event gets and of document 02's A2, each at its edge: a run on T1
+-- from power-on, with what is told and left. The promises themselves are statements of crates `thm_demands` and
+-- `thm_steps`; here each is computed once.
 use mathlib.Core.Path.{_≡_}
 use mathlib.Core.List.{List, [], _∷_, _++_}
 use Prim.Native.Nat.{ℕ, zero, suc}
@@ -50,6 +51,20 @@ erased =
     (command 0x80 (column 0 0 (row 4 (command 0x10 (finish 0
     (command 0x60 (row 0 (command 0xd0 [])))))))))))))
 
+-- row 0 read, its status asked for while the LUN works and again after the finish, and then a bare 00h and data out
+abbrev pub polled : List ℕ
+polled =
+    reset (command 0x00 (column 0 0 (row 0 (command 0x30
+    (command 0x70 (dataOut (finish 0 (dataOut (command 0x00 (dataOut []))))))))))
+
+-- row 0 read, and then a bare 00h and data out
+abbrev pub unpolled : List ℕ
+unpolled = reset (read (dataOut (command 0x00 (dataOut []))))
+
+-- the parameter page opened, a status asked for, and 05h with this column
+abbrev pub inPage : ℕ → ℕ → List ℕ → List ℕ
+inPage low high rest = reset (command 0xec (1 ∷ 0 ∷ command 0x70 (command 0x05 (column low high rest))))
+
 pub record Edges : Type 0 where
   -- "While the protect line is low no event changes the array or the program counts": 10h is 7 then, and does nothing
   pub low-told : told (t1With 0xa5 0) (lined 0) ≡ accepted 9 (refused 7 [])
@@ -86,3 +101,10 @@ pub record Edges : Type 0 where
   pub full-count : run t1 (reset (programs 5 [])) .buffers .counts ≡ 4 ∷ replicate 63 0
   -- an erase sets its block's counts to 0, and no other's
   pub extent : run t1 erased .buffers .counts ≡ 0 ∷ 0 ∷ 0 ∷ 0 ∷ 1 ∷ replicate 59 0
+  -- A2: data out after a status and a bare 00h goes on; with no status between, 00h has ended it
+  pub goes-on : told (t1With 0xa5 0) polled
+      ≡ accepted 9 (byte 0x80 (accepted 1 (byte 0xe0 (accepted 1 (byte 0xa5 [])))))
+  pub gone : told (t1With 0xa5 0) unpolled ≡ accepted 9 (byte 0xa5 (accepted 1 (refused 3 [])))
+  -- 05h behind a status moves within the page: byte 576, the maker's ID of its third copy, and 768 is past the end
+  pub in-page : told t1 (inPage 0x40 0x02 (command 0xe0 (dataOut []))) ≡ accepted 8 (byte 0x2c [])
+  pub past-page : told t1 (inPage 0x00 0x03 []) ≡ accepted 6 (refused 4 [])

@@ -128,7 +128,7 @@ module _ (t : Target) (e : Event) (page : List ℕ) (b : Buffers) (flags : List 
   unfolding targetRefused
   after-bad h = rw (h) (by (isBus e))
     where
-      by : (x : Bool) → _≡_ {A = Target} (record { powered = t .powered; geometry = t .geometry; words = t .words; ids = t .ids; high = t .high; clear = t .clear; seen = t .seen; selected = t .selected; luns = t .luns; decoder = pick (x && false) (record { sequence = Idle; output = output.Nothing }) (t .decoder) }) t
+      by : (x : Bool) → _≡_ {A = Target} (record { powered = t .powered; geometry = t .geometry; words = t .words; ids = t .ids; high = t .high; clear = t .clear; seen = t .seen; selected = t .selected; luns = t .luns; decoder = pick (x && false) (record { sequence = Idle; output = output.Nothing; kept = output.Nothing }) (t .decoder) }) t
       by true = refl
       by false = refl
 
@@ -344,7 +344,7 @@ powered-sound page device h =
     let fine = limited page h in
     let m = limits (geometryOf page) fine in
     let g = geometryOf page in
-    all-sound _ refl fine (worded page h) (m .luns-min) (rw (or-true (ltb 0 (g .luns)), or-true (ltb 1 (g .luns)), or-true (ltb 2 (g .luns)), or-true (ltb 3 (g .luns)))) refl refl
+    all-sound _ refl fine (worded page h) (m .luns-min) (rw (or-true (ltb 0 (g .luns)), or-true (ltb 1 (g .luns)), or-true (ltb 2 (g .luns)), or-true (ltb 3 (g .luns)))) refl refl refl
 
 module _ (page : List ℕ) (device : ℕ) (array registers counts flags : List ℕ) (on : powerAnswer page (length array) (length registers) counts flags ≡ power.Accepted) where
   pub powered-fit : Fit (poweredUp page device array registers counts .target) page (poweredUp page device array registers counts .buffers) flags

@@ -20,7 +20,7 @@ use Rattle.power.specs.Power.{powerAnswer, powerOf, unpowered}
 use Rattle.step.specs.Step.{Buffers, Outcome, State, stepOf}
 use Rattle.thm_demands.specs.Runs.{stepAt, left, after, poweredUp}
 
--- the record with no sequence open and no output, otherwise the same
+-- the record with no sequence open, no output and none kept, which counts as output; otherwise the same
 abbrev pub dropped : Target → Target
 dropped t = record {
   powered = t .powered;
@@ -32,7 +32,7 @@ dropped t = record {
   seen = t .seen;
   selected = t .selected;
   luns = t .luns;
-  decoder = record { sequence = Idle; output = Nothing };
+  decoder = record { sequence = Idle; output = Nothing; kept = Nothing };
 }
 
 -- "A refused bus cycle (12 and 13 apart, which change nothing) drops the sequence under way and ends output, and changes

@@ -2,13 +2,15 @@
 -- that one more costs nothing here.
 --     row-looks       a command that takes a row looks at its LUN
 --     data-row        one that takes data takes a row, and looks at its page
+--     data-outside    and its column is none of the parameter page
 --     starts-rowed    a second command that ends a first one starts work only where there is a row
 --     never-moves     and is not 85h
 -- Assumes nothing.
 use mathlib.Core.Path.{_≡_, refl, subst}
 use Prim.Native.Nat.{ℕ}
 use mathlib.Core.Bool.{Bool, true, false, _&&_, _||_, not, false≢true}
-use Rattle.target.specs.Commands.{rowOf, looksOf, thenOf, takesRow, waitsSecond, isData, secondOf, secondRow}
+use borrow.Author.Tests.{not-true}
+use Rattle.target.specs.Commands.{rowOf, looksOf, thenOf, takesRow, waitsSecond, isData, inPage, secondOf, secondRow}
 use Rattle.target.specs.Views.{endsWith}
 use Rattle.target.specs.declared.First.{First}
 use Rattle.target.specs.declared.Second.{Second}
@@ -56,6 +58,13 @@ data-test f = each-first (λ (x : First). implied (isData (thenOf x)) (takesRow 
 pub data-row : (f : First) → isData (thenOf f) ≡ true → (takesRow f ≡ true) × (looksAtPage (looksOf f) ≡ true)
 data-row f h =
     both (takesRow f) (looksAtPage (looksOf f)) (modus (isData (thenOf f)) (takesRow f && looksAtPage (looksOf f)) (data-test f) h)
+
+outside-test : (f : First) → implied (isData (thenOf f)) (not (inPage f)) ≡ true
+unfolding rowOf
+outside-test f = each-first (λ (x : First). implied (isData (thenOf x)) (not (inPage x))) refl f
+
+pub data-outside : (f : First) → isData (thenOf f) ≡ true → inPage f ≡ false
+data-outside f h = not-true (inPage f) (modus (isData (thenOf f)) (not (inPage f)) (outside-test f) h)
 
 -- The second command that a first one waits for.
 

@@ -12,6 +12,7 @@ use borrow.Author.Tests.{ltb-true, lt-ltb}
 use Rattle.target.specs.Events.{isBus, badRecord}
 use Rattle.target.specs.Luns.{works}
 use Rattle.target.specs.Views.{completed, taking}
+use Rattle.target.specs.Place.{putOut}
 use Rattle.target.specs.Sizes.{inLimits, sized}
 use Rattle.target.specs.declared.Event.{Event}
 use Rattle.target.specs.declared.Decoder.{Decoder}
@@ -24,29 +25,30 @@ use Rattle.target.proofs.Limits.{limits}
 use Rattle.rules.specs.Rules.{beyond, dataEnded, outputEnded, unoffered, outOfRange, notOffered, pastEnd, notWorking, verdict}
 use Rattle.rules.proofs.Passed.{Passed, all-passed}
 use Rattle.effects.specs.Effects.{dropped, workOf, targetAfter, targetRefused}
-use Rattle.step.specs.Usable.{wordsSound, marksSound, sequenceSound, outputSound, recordSound, usable}
+use Rattle.step.specs.Usable.{wordsSound, marksSound, sequenceSound, outputSound, keptSound, recordSound, usable}
 use Rattle.step.specs.Buffers.{findings}
 use Rattle.step.specs.Step.{Buffers, worked, acceptedBy, accepted, byVerdict, steady, stepOf}
-use Rattle.step.proofs.Sound.{sound, passes}
+use Rattle.step.proofs.Sound.{sound, put-out-sound, passes}
 use Rattle.step.proofs.WorkReady.{work-ready}
 use Rattle.thm_kept.specs.Kept.{letsPass, Kept}
 use Rattle.thm_kept.proofs.Choice.{by-pick, and-true, then-not}
 use Rattle.thm_kept.proofs.Sequences.{sequence-kept}
-use Rattle.thm_kept.proofs.Outputs.{output-kept, selected-kept}
+use Rattle.thm_kept.proofs.Outputs.{output-kept, memory-kept, selected-kept}
 use Rattle.thm_kept.proofs.Marks.{marks-kept}
 use Rattle.thm_kept.proofs.Lengths.{array-length, registers-length, counts-length}
 
 -- a record with sound parts is sound
-pub all-sound : (t : Target) → t .powered ≡ true → inLimits (t .geometry) ≡ true → wordsSound (t .geometry) (t .words) ≡ true → t .selected < t .geometry .luns → marksSound (t .geometry) (t .luns) ≡ true → sequenceSound (t .geometry) (t .decoder .sequence) ≡ true → outputSound (t .geometry) (t .decoder .output) ≡ true → recordSound t ≡ true
+pub all-sound : (t : Target) → t .powered ≡ true → inLimits (t .geometry) ≡ true → wordsSound (t .geometry) (t .words) ≡ true → t .selected < t .geometry .luns → marksSound (t .geometry) (t .luns) ≡ true → sequenceSound (t .geometry) (t .decoder .sequence) ≡ true → outputSound (t .geometry) (t .decoder .output) ≡ true → keptSound (t .geometry) (t .decoder .kept) ≡ true → recordSound t ≡ true
 unfolding recordSound
-all-sound t a b c d e f h =
+all-sound t a b c d e f h k =
     let g = t .geometry in
     let w = wordsSound g (t .words) in
     let l = ltb (t .selected) (g .luns) in
     let m = marksSound g (t .luns) in
     let s = sequenceSound g (t .decoder .sequence) in
     let o = outputSound g (t .decoder .output) in
-    and-true (t .powered && inLimits g && w && l && m && s) o
+    and-true (t .powered && inLimits g && w && l && m && s && o) (keptSound g (t .decoder .kept))
+    (and-true (t .powered && inLimits g && w && l && m && s) o
     (and-true (t .powered && inLimits g && w && l && m) s
     (and-true (t .powered && inLimits g && w && l) m
     (and-true (t .powered && inLimits g && w) l
@@ -54,7 +56,8 @@ all-sound t a b c d e f h =
     (lt-ltb _ _ d))
     e)
     f)
-    h
+    h)
+    k
 
 -- what an accepted event has passed, by its kind
 module _ (t : Target) (e : Event) (p : Passed t e) where
@@ -65,14 +68,14 @@ module _ (t : Target) (e : Event) (p : Passed t e) where
   pub taken : eqb (e .kind) 2 ≡ true → (dataEnded (t .geometry) (taking (t .decoder .sequence)) ≡ false) × (unoffered (t .words) (taking (t .decoder .sequence)) (e .value) ≡ false)
   unfolding pastEnd notOffered
   taken is = (
-    then-not (eqb (e .kind) 2) _ (neither (eqb (e .kind) 2 && dataEnded (t .geometry) (taking (t .decoder .sequence))) (eqb (e .kind) 3 && outputEnded (t .geometry) (t .decoder .output)) (p .rule-8) .0) is,
+    then-not (eqb (e .kind) 2) _ (neither (eqb (e .kind) 2 && dataEnded (t .geometry) (taking (t .decoder .sequence))) (eqb (e .kind) 3 && outputEnded (t .geometry) (putOut (t .decoder))) (p .rule-8) .0) is,
     then-not (eqb (e .kind) 2) _ (p .rule-9) is,
   )
 
-  pub more : eqb (e .kind) 3 ≡ true → outputEnded (t .geometry) (t .decoder .output) ≡ false
+  pub more : eqb (e .kind) 3 ≡ true → outputEnded (t .geometry) (putOut (t .decoder)) ≡ false
   unfolding pastEnd
   more is =
-      then-not (eqb (e .kind) 3) _ (neither (eqb (e .kind) 2 && dataEnded (t .geometry) (taking (t .decoder .sequence))) (eqb (e .kind) 3 && outputEnded (t .geometry) (t .decoder .output)) (p .rule-8) .1) is
+      then-not (eqb (e .kind) 3) _ (neither (eqb (e .kind) 2 && dataEnded (t .geometry) (taking (t .decoder .sequence))) (eqb (e .kind) 3 && outputEnded (t .geometry) (putOut (t .decoder))) (p .rule-8) .1) is
 
   pub finishes : eqb (e .kind) 4 ≡ true → e .value < t .geometry .luns
   unfolding notWorking
@@ -90,8 +93,9 @@ accepted-sound t e found h p =
     all-sound _ (k .powered) (k .limited) (k .words)
     (selected-kept g (t .selected) (t .decoder .sequence) e (m .luns-min) (k .selected) (k .sequence) (near t e p))
     (marks-kept g (t .luns) (t .decoder .sequence) e found (k .sequence) (k .marks) (near t e p) (finishes t e p))
-    (sequence-kept g (t .words) (t .decoder .sequence) e (k .sequence) (near t e p) (taken t e p))
-    (output-kept g (t .selected) (t .decoder) e (k .selected) (k .sequence) (k .output) (near t e p) (more t e p))
+    (sequence-kept g (t .words) (t .decoder) e (k .sequence) (near t e p) (taken t e p))
+    (output-kept g (t .selected) (t .decoder) e (k .selected) (k .sequence) (k .output) (put-out-sound t k) (near t e p) (more t e p))
+    (memory-kept g (t .decoder) e (k .output) (k .kept))
 
 pub refused-sound : (t : Target) (e : Event) → recordSound t ≡ true → recordSound (targetRefused t e) ≡ true
 unfolding targetRefused
@@ -101,6 +105,7 @@ refused-sound t e h =
     all-sound _ (k .powered) (k .limited) (k .words) (k .selected) (k .marks)
     (by-pick (λ (d : Decoder). sequenceSound g (d .sequence) ≡ true) (isBus e && not (badRecord e)) dropped (t .decoder) (λ _. refl) (λ _. k .sequence))
     (by-pick (λ (d : Decoder). outputSound g (d .output) ≡ true) (isBus e && not (badRecord e)) dropped (t .decoder) (λ _. refl) (λ _. k .output))
+    (by-pick (λ (d : Decoder). keptSound g (d .kept) ≡ true) (isBus e && not (badRecord e)) dropped (t .decoder) (λ _. refl) (λ _. k .kept))
 
 -- rule 13 lets pass
 abbrev pub Fit : Target → List ℕ → Buffers → List ℕ → Type 0
@@ -115,7 +120,7 @@ refit t n params b c flags h k same x y z =
     (rw (same, x, y, z) rest)
 
 module _ (t : Target) (e : Event) (params : List ℕ) (b : Buffers) (flags : List ℕ) (h : Fit t params b flags) where
-  fit-accepted : verdict t e ≡ verdicts.Accepted → (found : Findings) → found ≡ findings (t .geometry) (t .decoder .sequence) e (b .counts) flags → Fit (acceptedBy t e params b found .target) params (acceptedBy t e params b found .buffers) flags
+  fit-accepted : verdict t e ≡ verdicts.Accepted → (found : Findings) → found ≡ findings (t .geometry) (t .words) (t .decoder .sequence) e (b .counts) flags → Fit (acceptedBy t e params b found .target) params (acceptedBy t e params b found .buffers) flags
   unfolding acceptedBy worked targetAfter
   fit-accepted v found told =
       let u = passes t params (b .array) (b .registers) (b .counts) flags h in

@@ -1,21 +1,22 @@
 -- The sequence after an accepted event is sound where the one before it is.
 -- Assumes nothing.
-use mathlib.Core.Path.{_≡_, refl, sym}
+use mathlib.Core.Path.{_≡_, refl, sym, subst}
 use mathlib.Core.Bool.{Bool, true, false, _&&_, _||_, not, false≢true}
-use Prim.Native.Nat.{ℕ, _+_}
+use Prim.Native.Nat.{ℕ, _+_, _≤_}
 use native.Mathlib.Omega.{arith}
 use lib.Dec.{eqb, ltb, leb}
 use borrow.Author.Tests.{leb-false, lt-ltb, le-leb, eqb-true, not-false}
 use Rattle.target.specs.Address.{columnFrom, rowFrom, rowExists}
-use Rattle.target.specs.Sizes.{pageSize}
+use Rattle.target.specs.Sizes.{pageSize, columnEnd}
 use Rattle.target.specs.Words.{hasFeature}
-use Rattle.target.specs.Commands.{looksOf, thenOf, takesColumn, takesRow, cyclesOf, waitsSecond, isData, takesProgramData, firstOf, secondRow}
+use Rattle.target.specs.Commands.{looksOf, thenOf, takesColumn, takesRow, cyclesOf, waitsSecond, isData, takesProgramData, inPage, secondRow}
 use Rattle.target.specs.Views.{completed, taking, ending}
-use Rattle.target.specs.Place.{isOpen}
+use Rattle.target.specs.Place.{isOpen, isBare, firstHere}
 use Rattle.target.specs.Events.{isReset}
 use Rattle.target.specs.declared.Column.{Column}
 use Rattle.target.specs.declared.Row.{Row}
 use Rattle.target.specs.declared.Event.{Event}
+use Rattle.target.specs.declared.Decoder.{Decoder}
 use Rattle.target.specs.declared.Geometry.{Geometry}
 use Rattle.target.specs.declared.Words.{Words}
 use Rattle.target.specs.declared.First.{First}
@@ -37,7 +38,7 @@ use Rattle.rules.specs.Rules.{rowFits, beyond, dataEnded, unoffered}
 use Rattle.effects.specs.Effects.{started, opened, isMove, endedSequence, commanded, followed, columnGiven, addressed, filled, sequenceAfter}
 use Rattle.step.specs.Usable.{columnHeld, rowHeld, sequenceSound}
 use Rattle.thm_kept.proofs.Choice.{by-pick, and-true, one-of-two, two-of-three, below-at-most}
-use Rattle.thm_kept.proofs.Commands.{data-row}
+use Rattle.thm_kept.proofs.Commands.{data-row, data-outside}
 use Rattle.thm_kept.proofs.Views.{column-most, page-looked, takerSound, taker-sound, Ending, ends}
 
 module _ (g : Geometry) where
@@ -65,11 +66,12 @@ module _ (g : Geometry) where
       (λ is. and-true (takesProgramData (k .first) && true) (rowExists g (k .row)) (and-true (takesProgramData (k .first)) true (h .moves is .0) refl) (h .moves is .1))
       (λ _. refl)
 
-  commanded-sound : (s : Sequence) (v : ℕ) → Sound s → Sound (commanded s v)
-  commanded-sound s v h =
-      by-pick Sound (isOpen s) (endedSequence (ending s v)) (opened (firstOf v))
+  commanded-sound : (d : Decoder) (v : ℕ) → Sound (d .sequence) → Sound (commanded d v)
+  commanded-sound d v h =
+      let s = d .sequence in
+      by-pick Sound (isOpen s) (endedSequence (ending s v)) (opened (firstHere d v))
       (λ _. ended-sound (ending s v) (ends g s v h))
-      (λ _. opened-sound (firstOf v))
+      (λ _. opened-sound (firstHere d v))
 
   -- An address cycle.
 
@@ -85,7 +87,7 @@ module _ (g : Geometry) where
         and-true (waitsSecond f && columnHeld g f c) (rowHeld g f r) (and-true (waitsSecond f) (columnHeld g f c) (rw (told)) h) k
     follows then.Data told =
         and-true (takesProgramData f && leb (c .0) (pageSize g)) (rowExists g r)
-        (and-true (takesProgramData f) (leb (c .0) (pageSize g)) (rw (told)) (le-leb _ _ (column-most g f c h)))
+        (and-true (takesProgramData f) (leb (c .0) (pageSize g)) (rw (told)) (le-leb _ _ (subst (λ (b : Bool). c .0 ≤ columnEnd g b) (data-outside f (rw (told))) (column-most g f c h))))
         (data-held f r (rw (told)) k)
     follows then.FeatureIn told = refl
     follows then.Status told = refl
@@ -100,8 +102,8 @@ module _ (g : Geometry) where
       (λ no. follows f c (record { 0 = 0 }) h (rw (no)) (thenOf f) refl)
 
   -- a column that is not refused at its second cycle
-  in-page : (c : Column) → leb (pageSize g) (c .0) ≡ false → ltb (c .0) (pageSize g) ≡ true
-  in-page c h = lt-ltb (c .0) (pageSize g) (leb-false _ _ h)
+  before-end : (end : ℕ) (c : Column) → leb end (c .0) ≡ false → ltb (c .0) end ≡ true
+  before-end end c h = lt-ltb (c .0) end (leb-false _ _ h)
 
   columns-sound : (k : ColumnCycles) (v : ℕ) → Sound (Columns k) → beyond g (completed (Columns k) v) ≡ false → Sound (addressed (Columns k) v)
   columns-sound k v h near =
@@ -109,7 +111,7 @@ module _ (g : Geometry) where
       let p = both (takesColumn (k .first)) (ltb (k .got) 2) h in
       by-pick Sound (eqb (k .got) 0) _ _
       (λ _. and-true (takesColumn (k .first)) true (p .0) refl)
-      (λ no. column-given-sound (k .first) c (rw (p .0) (in-page c (rw (one-of-two (k .got) (p .1) no) at near))))
+      (λ no. column-given-sound (k .first) c (rw (p .0) (before-end (columnEnd g (inPage (k .first))) c (rw (one-of-two (k .got) (p .1) no) at near))))
 
   rows-sound : (k : RowCycles) (v : ℕ) → Sound (Rows k) → beyond g (completed (Rows k) v) ≡ false → Sound (addressed (Rows k) v)
   rows-sound k v h near =
@@ -134,7 +136,7 @@ module _ (g : Geometry) where
       (λ _. and-true (opener && true) (rowExists g (k .row)) (and-true opener true (p .0) refl) (p .2))
       (λ no. and-true (opener && leb (c .0) (pageSize g)) (rowExists g (k .row))
       (and-true opener (leb (c .0) (pageSize g)) (p .0)
-      (below-at-most (c .0) (pageSize g) (in-page c (rw (one-of-two (k .got) (p .1) no) at near))))
+      (below-at-most (c .0) (pageSize g) (before-end (pageSize g) c (rw (one-of-two (k .got) (p .1) no) at near))))
       (p .2))
 
   addressed-sound : (s : Sequence) (v : ℕ) → Sound s → beyond g (completed s v) ≡ false → Sound (addressed s v)
@@ -171,15 +173,16 @@ module _ (g : Geometry) where
       (λ _. by-pick Sound (eqb (k .got) 1) _ _ (λ _. p .1)
       (λ _. by-pick Sound (eqb (k .got) 2) _ _ (λ _. p .1) (λ _. refl)))
 
-  pub sequence-kept : (w : Words) (s : Sequence) (e : Event) → sequenceSound g s ≡ true
-      → (eqb (e .kind) 1 ≡ true → beyond g (completed s (e .value)) ≡ false)
-      → (eqb (e .kind) 2 ≡ true → (dataEnded g (taking s) ≡ false) × (unoffered w (taking s) (e .value) ≡ false))
-      → sequenceSound g (sequenceAfter s e) ≡ true
+  pub sequence-kept : (w : Words) (d : Decoder) (e : Event) → sequenceSound g (d .sequence) ≡ true
+      → (eqb (e .kind) 1 ≡ true → beyond g (completed (d .sequence) (e .value)) ≡ false)
+      → (eqb (e .kind) 2 ≡ true → (dataEnded g (taking (d .sequence)) ≡ false) × (unoffered w (taking (d .sequence)) (e .value) ≡ false))
+      → sequenceSound g (sequenceAfter d e) ≡ true
   unfolding sequenceAfter
-  sequence-kept w s e h near offered =
+  sequence-kept w d e h near offered =
+      let s = d .sequence in
       let v = e .value in
       by-pick Sound (isReset e) _ _ (λ _. refl)
-      (λ _. by-pick Sound (eqb (e .kind) 0) _ _ (λ _. commanded-sound s v h)
+      (λ _. by-pick Sound (eqb (e .kind) 0) _ _ (λ _. commanded-sound d v h)
       (λ _. by-pick Sound (eqb (e .kind) 1) _ _ (λ is. addressed-sound s v h (near is))
       (λ _. by-pick Sound (eqb (e .kind) 2) _ _ (λ is. filled-sound w s (taking s) v h (taker-sound g s h) (offered is .0) (offered is .1))
-      (λ _. h))))
+      (λ _. by-pick Sound (eqb (e .kind) 3 && isBare s) Idle s (λ _. refl) (λ _. h)))))

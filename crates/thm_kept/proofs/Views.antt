@@ -2,7 +2,7 @@
 --     row-named     a row that a command takes names a LUN that exists
 --     completes     a row that an address cycle completes belongs to a command that takes one
 --     taker-sound   what takes data is sound
---     ends          a second command has a column within the page, and the row that it needs
+--     ends          a second command has a column within its page, and the row that it needs
 -- Assumes nothing.
 use mathlib.Core.Path.{_≡_, refl}
 use mathlib.Core.Bool.{Bool, true, false, _||_, false≢true}
@@ -12,8 +12,8 @@ use lib.Dec.{eqb, ltb, leb}
 use borrow.Author.Tests.{eqb-true, ltb-true, leb-true}
 use Rattle.target.specs.Pick.{pick}
 use Rattle.target.specs.Address.{lunOf, rowExists}
-use Rattle.target.specs.Sizes.{pageSize}
-use Rattle.target.specs.Commands.{looksOf, takesColumn, takesRow, waitsSecond, takesProgramData, secondOf, secondRow}
+use Rattle.target.specs.Sizes.{pageSize, columnEnd}
+use Rattle.target.specs.Commands.{looksOf, takesColumn, takesRow, waitsSecond, takesProgramData, inPage, secondOf, secondRow}
 use Rattle.target.specs.Views.{completed, taking, endedWith, endsWith, ending}
 use Rattle.target.specs.declared.Column.{Column}
 use Rattle.target.specs.declared.Row.{Row}
@@ -40,18 +40,18 @@ use Rattle.effects.specs.Effects.{isMove}
 use Rattle.step.specs.Usable.{columnHeld, rowHeld, sequenceSound}
 use Rattle.step.proofs.Places.{lun-below, block-there, row-lun}
 use Rattle.thm_kept.proofs.Choice.{by-pick, opposite}
-use Rattle.thm_kept.proofs.Commands.{looksAtLun, looksAtPage, row-looks, starts-rowed, never-moves}
+use Rattle.thm_kept.proofs.Commands.{looksAtLun, looksAtPage, row-looks, data-outside, starts-rowed, never-moves}
 
 module _ (g : Geometry) where
   -- Columns and rows that are held.
 
-  -- a column is below P, or 0
-  pub column-most : (f : First) (c : Column) → columnHeld g f c ≡ true → c .0 ≤ pageSize g
-  column-most f c h = by (takesColumn f) h
+  -- a column is below its end, or 0
+  pub column-most : (f : First) (c : Column) → columnHeld g f c ≡ true → c .0 ≤ columnEnd g (inPage f)
+  column-most f c h = by (columnEnd g (inPage f)) (takesColumn f) h
     where
-      by : (b : Bool) → pick b (ltb (c .0) (pageSize g)) (eqb (c .0) 0) ≡ true → c .0 ≤ pageSize g
-      by true k = omega (arith, ltb-true (c .0) (pageSize g) k)
-      by false k = omega (arith, eqb-true (c .0) 0 k)
+      by : (end : ℕ) (b : Bool) → pick b (ltb (c .0) end) (eqb (c .0) 0) ≡ true → c .0 ≤ end
+      by end true k = omega (arith, ltb-true (c .0) end k)
+      by end false k = omega (arith, eqb-true (c .0) 0 k)
 
   -- a row that is looked at names a LUN, and a page, that exists
   lun-looked : (l : Looks) (r : Row) → looksAtLun l ≡ true → exists g l r ≡ true → lunOf g r < g .luns
@@ -111,7 +111,7 @@ module _ (g : Geometry) where
   -- What a second command ends.
 
   pub record Ends (k : Ended) : Type 0 where
-    pub column : k .column .0 ≤ pageSize g
+    pub column : k .column .0 ≤ columnEnd g (inPage (k .first))
     pub row : takesRow (k .first) ≡ true → lunOf g (k .row) < g .luns
     pub starts : secondRow (k .second) .starts ≡ true → lunOf g (k .row) < g .luns
     pub moves : isMove (secondRow (k .second) .act) ≡ true → (takesProgramData (k .first) ≡ true) × (rowExists g (k .row) ≡ true)
@@ -141,7 +141,7 @@ module _ (g : Geometry) where
   filling-ends k h (second.Found s) =
       let p = both3 (takesProgramData (k .first)) (leb (k .at .0) (pageSize g)) (rowExists g (k .row)) h in
       let named = row-lun g (k .row) (p .2) in
-      record { column = leb-true _ _ (p .1); row = λ _. named; starts = λ _. named; moves = λ _. (p .0, p .2) }
+      record { column = rw (data-outside (k .first) (p .0)) (leb-true _ _ (p .1)); row = λ _. named; starts = λ _. named; moves = λ _. (p .0, p .2) }
 
   pub ends : (s : Sequence) (v : ℕ) → sequenceSound g s ≡ true → Ending (ending s v)
   ends Idle v h = tt

@@ -2,7 +2,7 @@
 -- LUN but the job's, and are the same for two targets that agree on that LUN. All of it goes by the views of the open
 -- sequence.
 -- Assumes nothing.
-use mathlib.Core.Path.{_≡_, refl, ap}
+use mathlib.Core.Path.{_≡_, refl, sym, ap, _∙_}
 use mathlib.Core.Bool.{Bool, true, false, _&&_, _||_, not, false≢true}
 use mathlib.Core.List.{List, _∷_}
 use Prim.Native.Nat.{ℕ, _*_}
@@ -13,13 +13,16 @@ use Rattle.slices.proofs.Parts.{getD-alike}
 use Rattle.target.specs.Address.{lunOf, rowExists}
 use Rattle.target.specs.Commands.{clearsRegister, closesCopyback, waitsFor, cyclesOf, firstOf, secondRow}
 use Rattle.target.specs.Luns.{lunAt, lunBegun, lunClosed}
-use Rattle.target.specs.Place.{isOpen}
+use Rattle.target.specs.Pick.{pick}
+use Rattle.target.specs.Place.{isOpen, isBare}
 use Rattle.target.specs.Sizes.{pageSize}
 use Rattle.target.specs.Views.{completed, taking, ending}
 use Rattle.target.specs.declared.Row.{Row}
 use Rattle.target.specs.declared.Decoder.{Decoder}
 use Rattle.target.specs.declared.Findings.{Findings}
+use Rattle.target.specs.Words.{hasFeature}
 use Rattle.target.specs.declared.Geometry.{Geometry}
+use Rattle.target.specs.declared.Words.{Words}
 use Rattle.target.specs.declared.Lun.{Lun}
 use Rattle.target.specs.declared.Sequence.{Sequence}
 use Rattle.target.specs.declared.Output.{Output}
@@ -38,19 +41,19 @@ use Rattle.target.specs.declared.views.Ender.{Ender}
 use Rattle.target.specs.declared.views.Ender.the-variants as ender
 use Rattle.target.proofs.Both.{both}
 use Rattle.rules.specs.Rules.{fits, outputEnded, pastEnd}
-use Rattle.effects.specs.Effects.{sequenceAfter, endedOutput, firstOutput, commandOutput, outputAfter, begun, endCloses, endedLuns, addressedLuns, lunsAfter, clearSet, clearAfter, highAfter, targetAfter, acted, endedWork, firstWork, commandWork, addressWork, dataWork, workOf}
+use Rattle.effects.specs.Effects.{sequenceAfter, endedOutput, firstOutput, commandOutput, outputAfter, keptAfter, begun, endCloses, endedLuns, addressedLuns, lunsAfter, clearSet, clearAfter, highAfter, targetAfter, acted, endedWork, firstWork, commandWork, addressWork, dataWork, workOf}
 use Rattle.step.specs.Usable.{sequenceSound}
-use Rattle.step.specs.Buffers.{pageFull, blockBad, proceeds, endedFindings, findings, statusOf, outputByte}
+use Rattle.step.specs.Buffers.{pageFull, outOfOrder, blockBad, proceeds, endedFindings, findings, statusOf, outputByte}
 use Rattle.step.specs.Step.{Buffers, replyOf, Reaches, EnderReaches}
 use Rattle.step.proofs.WorkReady.{ender-reaches}
 use Rattle.thm_kept.proofs.Choice.{by-pick}
 use Rattle.jobs.specs.Cycles.{Cycle, command, address, dataIn, dataOut}
 use Rattle.thm_stations.specs.Jobs.{eventOf}
 use Rattle.thm_stations.proofs.Agreement.{RegisterAgrees, CountsAgree, SizesOf}
-use Rattle.thm_stations.proofs.OwnWork.{Mine, count-alike}
+use Rattle.thm_stations.proofs.OwnWork.{Mine, count-alike, higher-alike}
 use Rattle.thm_stations.proofs.Records.{Changed, as-were, become-by, changed-pick}
 use Rattle.thm_stations.proofs.Halves.{Fixed, fixedOf, made, refixed}
-use Rattle.thm_stations.proofs.Course.{decoder, isNobody, aimedFound, Plain, plainly, EndedOf, GivenOf, TakerOf, OutputOf, CycleOf, Course, Spared, spared-behind, Standing, equal, Alike}
+use Rattle.thm_stations.proofs.Course.{held, isNobody, aimedFound, Plain, plainly, EndedOf, GivenOf, TakerOf, OutputOf, CycleOf, Course, Spared, spared-behind, sequence-any, fits-any, Standing, equal, Alike}
 
 module _ (g : Geometry) (l : ℕ) where
   -- The work is the LUN's own.
@@ -161,27 +164,31 @@ module _ (g : Geometry) (l : ℕ) where
       → commandOutput g a s v ≡ commandOutput g b s v
   command-any s v a b p w = rw (ended-any (ending s v) a b w, first-any (firstOf v) a b (p .is-aimed))
 
-  output-any : (s : Sequence) (c : Cycle) {cs : List Cycle} {o p : Output} (a b : ℕ) → Standing (c ∷ cs) o p
-      → CycleOf g l c s o → outputAfter g a (decoder s o) (eventOf c) ≡ outputAfter g b (decoder s p) (eventOf c)
+  output-any : (s : Sequence) (c : Cycle) {cs : List Cycle} {o p : Output} (i j : Output) (a b : ℕ) → Standing (c ∷ cs) o p
+      → CycleOf g l c s o → outputAfter g a (held s o i) (eventOf c) ≡ outputAfter g b (held s p j) (eventOf c)
   unfolding CycleOf outputAfter
-  output-any s (command v) a b standing keeps =
+  output-any s (command v) i j a b standing keeps =
       rw (plainly v (keeps .0) .no-reset) (command-any s v a b (plainly v (keeps .0)) (keeps .1))
-  output-any s (address v) a b equal keeps = refl
-  output-any s (dataIn v) a b equal keeps = refl
-  output-any s dataOut a b equal keeps = refl
+  output-any s (address v) i j a b equal keeps = refl
+  output-any s (dataIn v) i j a b equal keeps = refl
+  output-any s dataOut i j a b equal keeps = rw (keeps .0)
 
-  pub decoder-alike : (s : Sequence) (c : Cycle) (cs : List Cycle) {o p : Output} (a b : ℕ) → Standing (c ∷ cs) o p
-      → Course g l (c ∷ cs) s o → Spared g l cs → fits (decoder s o) (eventOf c) ≡ true
-      → Alike g l cs (decoder (sequenceAfter s (eventOf c)) (outputAfter g a (decoder s o) (eventOf c)))
-      (decoder (sequenceAfter s (eventOf c)) (outputAfter g b (decoder s p) (eventOf c)))
+  -- the decoder after a cycle, with whatever is kept
+  abbrev decoderAfter : ℕ → Decoder → Cycle → Decoder
+  decoderAfter a d c = held (sequenceAfter d (eventOf c)) (outputAfter g a d (eventOf c)) (keptAfter g d (eventOf c))
+
+  pub decoder-alike : (s : Sequence) (c : Cycle) (cs : List Cycle) {o p : Output} (i j : Output) (a b : ℕ)
+      → Standing (c ∷ cs) o p → Course g l (c ∷ cs) s o → Spared g l cs → fits (held s o i) (eventOf c) ≡ true
+      → Alike g l cs (decoderAfter a (held s o i) c) (decoderAfter b (held s p j) c)
   unfolding Course
-  decoder-alike s c cs {o} {p} a b standing course spared fit =
-      let same = output-any s c a b standing (course .0) in
-      let here = output-any s c {cs = cs} a l equal (course .0) in
+  decoder-alike s c cs {o} {p} i j a b standing course spared fit =
+      let same = output-any s c i j a b standing (course .0) in
+      let here = output-any s c {cs = cs} i output.Nothing a l equal (course .0) in
+      let opened = sequence-any g l s c o o i output.Nothing (course .0) in
       record {
-        sequence = refl;
+        sequence = sequence-any g l s c o p i j (course .0);
         standing = rw (← same) equal;
-        course = rw here (course .1 fit);
+        course = rw (here, opened) (course .1 (fits-any g l s c o output.Nothing i (course .0) ∙ fit));
         rest = spared-behind g l cs spared;
       }
 
@@ -191,30 +198,34 @@ module _ (g : Geometry) (l : ℕ) (flags : List ℕ) (B C : Buffers) (sizes : Si
   unfolding pageFull
   full-alike r there q = ap (leb (g .programs)) (count-alike g B C sizes sizesʳ r there (rw q agree))
 
-  -- a program looks at its page, which exists
-  proceeds-alike : (a : Act) (r : Row) → Reaches g a r → lunOf g r ≡ l
-      → proceeds g a r (B .counts) flags ≡ proceeds g a r (C .counts) flags
+  order-alike : (w : Words) (r : Row) → rowExists g r ≡ true → lunOf g r ≡ l → outOfOrder g w r (B .counts) ≡ outOfOrder g w r (C .counts)
+  unfolding outOfOrder
+  order-alike w r there q = ap (λ (x : Bool). not (hasFeature w 2) && x) (higher-alike g B C sizes sizesʳ r there (rw q agree))
+
+  -- a program looks at its page, which exists, and at the higher pages of its block
+  proceeds-alike : (w : Words) (a : Act) (r : Row) → Reaches g a r → lunOf g r ≡ l
+      → proceeds g w a r (B .counts) flags ≡ proceeds g w a r (C .counts) flags
   unfolding Reaches
-  proceeds-alike act.Nothing r there q = refl
-  proceeds-alike act.Load r there q = refl
-  proceeds-alike act.Program r there q = ap (λ (full : Bool). not (blockBad g r flags || full)) (full-alike r there q)
-  proceeds-alike act.Erase r there q = refl
-  proceeds-alike act.Move r there q = refl
+  proceeds-alike w act.Nothing r there q = refl
+  proceeds-alike w act.Load r there q = refl
+  proceeds-alike w act.Program r there q = λ j. not (blockBad g r flags || full-alike r there q j || order-alike w r there q j)
+  proceeds-alike w act.Erase r there q = refl
+  proceeds-alike w act.Move r there q = refl
 
-  ended-findings : (x : Ender) → EnderReaches g x → EndedOf g l x
-      → endedFindings g x (B .counts) flags ≡ endedFindings g x (C .counts) flags
+  ended-findings : (w : Words) (x : Ender) → EnderReaches g x → EndedOf g l x
+      → endedFindings g w x (B .counts) flags ≡ endedFindings g w x (C .counts) flags
   unfolding EndedOf EnderReaches
-  ended-findings ender.Nothing there w = refl
-  ended-findings (ender.By k) there w =
-      ap (λ (b : Bool). record { proceeds = b }) (proceeds-alike (secondRow (k .second) .act) (k .row) there (w .1))
+  ended-findings words ender.Nothing there w = refl
+  ended-findings words (ender.By k) there w =
+      ap (λ (b : Bool). record { proceeds = b }) (proceeds-alike words (secondRow (k .second) .act) (k .row) there (w .1))
 
-  pub findings-alike : (s : Sequence) (o : Output) (c : Cycle) → sequenceSound g s ≡ true → CycleOf g l c s o
-      → findings g s (eventOf c) (B .counts) flags ≡ findings g s (eventOf c) (C .counts) flags
+  pub findings-alike : (w : Words) (s : Sequence) (o : Output) (c : Cycle) → sequenceSound g s ≡ true → CycleOf g l c s o
+      → findings g w s (eventOf c) (B .counts) flags ≡ findings g w s (eventOf c) (C .counts) flags
   unfolding CycleOf findings
-  findings-alike s o (command v) ok keeps = ended-findings (ending s v) (ender-reaches g s v ok) (keeps .1)
-  findings-alike s o (address v) ok keeps = refl
-  findings-alike s o (dataIn v) ok keeps = refl
-  findings-alike s o dataOut ok keeps = refl
+  findings-alike w s o (command v) ok keeps = ended-findings w (ending s v) (ender-reaches g s v ok) (keeps .1)
+  findings-alike w s o (address v) ok keeps = refl
+  findings-alike w s o (dataIn v) ok keeps = refl
+  findings-alike w s o dataOut ok keeps = refl
 
 -- The answer.
 module _ (k : Fixed) (l a b : ℕ) (xs ys : List Lun) (lun : lunAt xs l ≡ lunAt ys l) (params : List ℕ) (B C : Buffers) (agree : RegisterAgrees (k .geometry) l B C) where
@@ -222,27 +233,33 @@ module _ (k : Fixed) (l a b : ℕ) (xs ys : List Lun) (lun : lunAt xs l ≡ lunA
   unfolding statusOf
   status-alike d e = rw lun
 
-  byte-alike : (s : Sequence) (o : Output) → OutputOf l o → outputEnded (k .geometry) o ≡ false
-      → outputByte (made k a xs (decoder s o)) params (B .registers) o ≡ outputByte (made k b ys (decoder s o)) params (C .registers) o
+  byte-alike : (d e : Decoder) (o : Output) → OutputOf l o → outputEnded (k .geometry) o ≡ false
+      → outputByte (made k a xs d) params (B .registers) o ≡ outputByte (made k b ys e) params (C .registers) o
   unfolding OutputOf outputByte
-  byte-alike s output.Nothing q ended = refl
-  byte-alike s (output.Register m c) q ended =
+  byte-alike d e output.Nothing q ended = refl
+  byte-alike d e (output.Register m c) q ended =
       let size = pageSize (k .geometry) in
       rw q (getD-alike (B .registers) (C .registers) (l * size) size agree (c .0) (leb-false _ _ ended))
-  byte-alike s (output.Parameters at) q ended = absurd q
-  byte-alike s (output.Status m) q ended = rw q (status-alike _ _)
-  byte-alike s (output.Ids at) q ended = absurd q
-  byte-alike s (output.Signature at) q ended = absurd q
-  byte-alike s (output.Feature at) q ended = absurd q
+  byte-alike d e (output.Parameters at) q ended = absurd q
+  byte-alike d e (output.Status m) q ended = rw q (status-alike d e)
+  byte-alike d e (output.Ids at) q ended = absurd q
+  byte-alike d e (output.Signature at) q ended = absurd q
+  byte-alike d e (output.Feature at) q ended = absurd q
 
-  pub reply-alike : (s : Sequence) (c : Cycle) {cs : List Cycle} {o p : Output} → Standing (c ∷ cs) o p
-      → CycleOf (k .geometry) l c s o → pastEnd (k .geometry) (decoder s o) (eventOf c) ≡ false
-      → replyOf (made k a xs (decoder s o)) (eventOf c) params (B .registers) ≡ replyOf (made k b ys (decoder s p)) (eventOf c) params (C .registers)
+  -- data out that is not after a bare 00h gives the output that is open
+  out-alike : (s : Sequence) (o i j : Output) (x : Bool) → x ≡ false → OutputOf l o → outputEnded (k .geometry) (pick x i o) ≡ false
+      → outputByte (made k a xs (held s o i)) params (B .registers) (pick x i o) ≡ outputByte (made k b ys (held s o j)) params (C .registers) (pick x j o)
+  out-alike s o i j true plain q ended = absurd (false≢true (sym plain))
+  out-alike s o i j false plain q ended = byte-alike (held s o i) (held s o j) o q ended
+
+  pub reply-alike : (s : Sequence) (c : Cycle) {cs : List Cycle} {o p : Output} (i j : Output) → Standing (c ∷ cs) o p
+      → CycleOf (k .geometry) l c s o → pastEnd (k .geometry) (held s o i) (eventOf c) ≡ false
+      → replyOf (made k a xs (held s o i)) (eventOf c) params (B .registers) ≡ replyOf (made k b ys (held s p j)) (eventOf c) params (C .registers)
   unfolding CycleOf replyOf pastEnd
-  reply-alike s (command v) standing keeps ended = refl
-  reply-alike s (address v) standing keeps ended = refl
-  reply-alike s (dataIn v) standing keeps ended = refl
-  reply-alike s dataOut {o = o} equal keeps ended = ap reply.Byte (byte-alike s o keeps ended)
+  reply-alike s (command v) i j standing keeps ended = refl
+  reply-alike s (address v) i j standing keeps ended = refl
+  reply-alike s (dataIn v) i j standing keeps ended = refl
+  reply-alike s dataOut {o = o} i j equal keeps ended = ap reply.Byte (out-alike s o i j (isBare s) (keeps .0) (keeps .1) ended)
 
 -- The fixed half.
 pub or-none : (a : Bool) {b : Bool} → b ≡ false → (a || b) ≡ a
@@ -255,12 +272,12 @@ clear-kept g l clear taker.Nothing w = refl
 clear-kept g l clear (taker.Program k) w = refl
 clear-kept g l clear (taker.Feature k) w = absurd w
 
-pub fixed-kept : (k : Fixed) (l a : ℕ) (xs : List Lun) (s : Sequence) (o p : Output) (c : Cycle) (found : Findings)
-    → CycleOf (k .geometry) l c s o → fixedOf (targetAfter (made k a xs (decoder s p)) (eventOf c) found) ≡ k
+pub fixed-kept : (k : Fixed) (l a : ℕ) (xs : List Lun) (s : Sequence) (o p i : Output) (c : Cycle) (found : Findings)
+    → CycleOf (k .geometry) l c s o → fixedOf (targetAfter (made k a xs (held s p i)) (eventOf c) found) ≡ k
 unfolding CycleOf targetAfter highAfter clearAfter
-fixed-kept k l a xs s o p (command v) found keeps =
+fixed-kept k l a xs s o p i (command v) found keeps =
     refixed k (rw (plainly v (keeps .0) .no-reset)) (or-none (k .seen) (plainly v (keeps .0) .no-reset))
-fixed-kept k l a xs s o p (address v) found keeps = refixed k refl (or-none (k .seen) refl)
-fixed-kept k l a xs s o p (dataIn v) found keeps =
+fixed-kept k l a xs s o p i (address v) found keeps = refixed k refl (or-none (k .seen) refl)
+fixed-kept k l a xs s o p i (dataIn v) found keeps =
     refixed k (clear-kept (k .geometry) l (k .clear) (taking s) keeps) (or-none (k .seen) refl)
-fixed-kept k l a xs s o p dataOut found keeps = refixed k refl (or-none (k .seen) refl)
+fixed-kept k l a xs s o p i dataOut found keeps = refixed k refl (or-none (k .seen) refl)

@@ -10,7 +10,7 @@ use lib.Dec.{eqb}
 use borrow.Author.Tests.{not-true}
 use Rattle.target.specs.Pick.{pick}
 use Rattle.target.specs.Address.{columnFrom, lunOf}
-use Rattle.target.specs.Commands.{rowOf, cyclesOf, thenOf, needsReady, waitsFor, takesColumn, takesRow, firstOf, secondRow, secondOf, classOf}
+use Rattle.target.specs.Commands.{rowOf, cyclesOf, thenOf, needsReady, waitsFor, takesColumn, takesRow, inPage, firstOf, secondRow, secondOf, classOf}
 use Rattle.target.specs.Views.{asksSelected, endedWith, endedBy, endsWith, ending}
 use Rattle.target.specs.Place.{takesCommand}
 use Rattle.target.specs.declared.Column.{Column}
@@ -32,9 +32,10 @@ use Rattle.target.specs.declared.commands.SecondFound.the-variants as second
 use Rattle.target.specs.declared.commands.Then.the-variants as then
 use Rattle.target.specs.declared.views.Ender.{Ender}
 use Rattle.target.specs.declared.views.Ender.the-variants as ender
-use Rattle.target.proofs.Both.{both}
+use Rattle.target.proofs.Both.{both, other}
+use Rattle.target.proofs.Firsts.{each-first}
 use Rattle.rules.specs.Rules.{fits}
-use Rattle.effects.specs.Effects.{started, isMove, endedSequence, followed, sequenceAfter, endedOutput, shown, advanced, outputAfter}
+use Rattle.effects.specs.Effects.{started, isMove, endedSequence, followed, sequenceAfter, endedPlace, endedOutput, shown, advanced, outputAfter}
 use Rattle.thm_kept.proofs.Choice.{by-pick}
 use Rattle.jobs.specs.Cycles.{Cycle, command, dataOut, ColumnBytes, RowBytes, two, three}
 use Rattle.thm_stations.specs.Jobs.{eventOf, wholeRow, Piece, byte, move, pieces, Job, read, readOut, program, erase, status, copybackRead, copybackProgram, cycles, lunNamed}
@@ -45,12 +46,14 @@ use Rattle.thm_stations.proofs.Course.{decoder, isNobody, aimed, plain,
 pub record Opens (v : ℕ) (f : First) : Type 0 where
   pub found : firstOf v ≡ first.Found f
   pub no-reset : eqb v 0xff ≡ false
+  pub no-page : eqb v 0x05 ≡ false
   pub is-aimed : aimed f ≡ true
   pub rowed : takesRow f ≡ true
 
-pub opens : {v : ℕ} {f : First} → firstOf v ≡ first.Found f → eqb v 0xff ≡ false → aimed f ≡ true → takesRow f ≡ true
-    → Opens v f
-opens found no-reset is-aimed rowed = record { found = found; no-reset = no-reset; is-aimed = is-aimed; rowed = rowed }
+pub opens : {v : ℕ} {f : First} → firstOf v ≡ first.Found f → eqb v 0xff ≡ false → eqb v 0x05 ≡ false → aimed f ≡ true
+    → takesRow f ≡ true → Opens v f
+opens found no-reset no-page is-aimed rowed =
+    record { found = found; no-reset = no-reset; no-page = no-page; is-aimed = is-aimed; rowed = rowed }
 
 abbrev pub isMoved : SecondFound → Bool
 isMoved second.Nothing = false
@@ -72,6 +75,14 @@ none-of false = refl
 -- a command with a row asks nothing of the selected LUN
 asks-nobody : (f : First) → takesRow f ≡ true → asksSelected f ≡ false
 asks-nobody f row = rw row (none-of (needsReady f))
+
+-- nor has a column of the parameter page
+row-test : (f : First) → (not (takesRow f) || not (inPage f)) ≡ true
+unfolding rowOf
+row-test f = each-first (λ (x : First). not (takesRow x) || not (inPage x)) refl f
+
+row-outside : (f : First) → takesRow f ≡ true → inPage f ≡ false
+row-outside f row = not-true (inPage f) (other (not (takesRow f)) (not (inPage f)) (row-test f) (rw row))
 
 -- what closes a sequence leaves none open
 over-with : (x : SecondFound) (f : First) (c : Column) (r : Row) → isMoved x ≡ false
@@ -108,7 +119,7 @@ module _ (g : Geometry) where
   ended-output l ender.Nothing w = tt
   ended-output l (ender.By k) w =
       by-pick (OutputOf l) (secondRow (k .second) .shows)
-      (output.Register (pick (takesRow (k .first)) (lunOf g (k .row)) l) (k .column)) output.Nothing (λ _. rw (w .0) (w .1)) (λ _. tt)
+      (endedPlace g l k) output.Nothing (λ _. rw (row-outside (k .first) (w .0), w .0) (w .1)) (λ _. tt)
 
   -- data out of what is the LUN's
   advanced-of : (l : ℕ) (o : Output) → OutputOf l o → OutputOf l (advanced o)
@@ -124,7 +135,7 @@ module _ (g : Geometry) where
   outs-course : (l n : ℕ) (o : Output) → OutputOf l o → Course g l (replicate n dataOut) Idle o
   unfolding Course CycleOf sequenceAfter outputAfter
   outs-course l zero o q = refl
-  outs-course l (suc n) o q = (q, λ _. outs-course l n (advanced o) (advanced-of l o q))
+  outs-course l (suc n) o q = ((refl, q), λ _. outs-course l n (advanced o) (advanced-of l o q))
 
   outs-spared : (l n : ℕ) → Spared g l (replicate n dataOut)
   unfolding Spared
@@ -137,7 +148,7 @@ module _ (g : Geometry) where
       spared-command g l (replicate n dataOut) (outs-spared l n) last (k .is-plain) (k .not-first)
 
   closed-course : (l v n : ℕ) (s : Sequence) (o : Output) → plain v ≡ true → EndedOf g l (ending s v)
-      → sequenceAfter s (eventOf (command v)) ≡ Idle → OutputOf l (outputAfter g l (decoder s o) (eventOf (command v)))
+      → sequenceAfter (decoder s o) (eventOf (command v)) ≡ Idle → OutputOf l (outputAfter g l (decoder s o) (eventOf (command v)))
       → Course g l (command v ∷ replicate n dataOut) s o
   unfolding Course CycleOf
   closed-course l v n s o known ends idle out =
@@ -229,12 +240,12 @@ module _ (g : Geometry) where
   -- the sequence that a first command opens, and no output
   opened-course : (l v : ℕ) (f : First) (cs : List Cycle) (o : Output) → Opens v f
       → Course g l cs (started f) output.Nothing
-      → Course g l cs (sequenceAfter Idle (eventOf (command v)))
+      → Course g l cs (sequenceAfter (decoder Idle o) (eventOf (command v)))
       (outputAfter g l (decoder Idle o) (eventOf (command v)))
   unfolding sequenceAfter outputAfter
   opened-course l v f cs o k h =
       let addresses = both (isNobody (waitsFor f)) (not (eqb (cyclesOf f) 0)) (k .is-aimed) .1 in
-      rw (k .no-reset, k .found, not-true (eqb (cyclesOf f) 0) addresses) h
+      rw (k .no-reset, k .no-page, k .found, not-true (eqb (cyclesOf f) 0) addresses) h
 
   -- a job from its first command on, whatever was put out before
   begun : (l v : ℕ) (f : First) (cs : List Cycle) {d e : Decoder} → Opens v f → Quiet d → Quiet e
@@ -243,7 +254,7 @@ module _ (g : Geometry) where
   begun l v f cs {d} k p q course spared = record {
     sequence = p ∙ sym q;
     standing = at-start;
-    course = rw p ((rw (k .no-reset, k .found) (k .is-aimed), tt), λ _. opened-course l v f cs (d .output) k course);
+    course = rw p ((rw (k .no-reset, k .no-page, k .found) (k .is-aimed), tt), λ _. opened-course l v f cs (d .output) k course);
     rest = spared;
   }
 
@@ -327,14 +338,14 @@ module _ (g : Geometry) where
 pub job-alike : (g : Geometry) (j : Job) {d e : Decoder} → Quiet d → Quiet e → Alike g (lunNamed g j) (cycles j) d e
 unfolding cycles rowOf firstOf secondRow secondOf classOf
 job-alike g (read c r) p q =
-    five-second g _ _ Read (opens refl refl refl refl) refl refl (closes refl refl refl) c r 0 p q
+    five-second g _ _ Read (opens refl refl refl refl refl) refl refl (closes refl refl refl) c r 0 p q
 job-alike g (readOut c r n) p q =
-    five-second g _ _ ChangeColumnEnhanced (opens refl refl refl refl) refl refl (closes refl refl refl) c r n p q
+    five-second g _ _ ChangeColumnEnhanced (opens refl refl refl refl refl) refl refl (closes refl refl refl) c r n p q
 job-alike g (program c r ps) p q =
-    five-data g _ _ Program (opens refl refl refl refl) refl refl (closes refl refl refl) c r ps p q
-job-alike g (erase r) p q = three-second g _ _ Erase (opens refl refl refl refl) refl refl (closes refl refl refl) r p q
-job-alike g (status r n) p q = three-status g _ StatusEnhanced (opens refl refl refl refl) refl refl r n p q
+    five-data g _ _ Program (opens refl refl refl refl refl) refl refl (closes refl refl refl) c r ps p q
+job-alike g (erase r) p q = three-second g _ _ Erase (opens refl refl refl refl refl) refl refl (closes refl refl refl) r p q
+job-alike g (status r n) p q = three-status g _ StatusEnhanced (opens refl refl refl refl refl) refl refl r n p q
 job-alike g (copybackRead c r) p q =
-    five-second g _ _ Read (opens refl refl refl refl) refl refl (closes refl refl refl) c r 0 p q
+    five-second g _ _ Read (opens refl refl refl refl refl) refl refl (closes refl refl refl) c r 0 p q
 job-alike g (copybackProgram c r ps) p q =
-    five-data g _ _ CopybackProgram (opens refl refl refl refl) refl refl (closes refl refl refl) c r ps p q
+    five-data g _ _ CopybackProgram (opens refl refl refl refl refl) refl refl (closes refl refl refl) c r ps p q

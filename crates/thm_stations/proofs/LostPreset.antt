@@ -12,7 +12,7 @@ use Prim.Native.Nat.{ℕ}
 use native.Mathlib.Omega.{arith}
 use lib.Dec.{lit<}
 use lib.ListN.{replicate}
-use Rattle.slices.specs.Cells.{splice, part, andBytes}
+use Rattle.slices.specs.Cells.{splice, part, andBytes, someSet}
 use Rattle.target.specs.Pick.{orElse}
 use Rattle.target.specs.Events.{badRecord}
 use Rattle.target.specs.Commands.{rowOf, firstOf, secondRow, secondOf, classOf, offered}
@@ -22,9 +22,9 @@ use Rattle.target.specs.Words.{bitOf}
 use Rattle.target.specs.declared.Reply.{Reply}
 use Rattle.target.specs.declared.Reply.the-variants.{Accepted, Byte}
 use Rattle.rules.specs.Rules.{unknown, beforeReset, fits, misplaced, outOfRange, lunWorks, noCopyback, othersBusy, lineLow, pastEnd, notOffered, notWorking, lineHeld, rules, verdict}
-use Rattle.effects.specs.Effects.{sequenceAfter, outputAfter, lunsAfter, selectedAfter, clearAfter, highAfter, targetAfter, targetRefused, workOf}
+use Rattle.effects.specs.Effects.{sequenceAfter, outputAfter, keptAfter, lunsAfter, selectedAfter, clearAfter, highAfter, targetAfter, targetRefused, workOf}
 use Rattle.step.specs.Usable.{recordSound, usable}
-use Rattle.step.specs.Buffers.{blockIndex, pageIndex, registersAfter, arrayAfter, countsAfter, blockBad, pageFull, findings, statusOf, outputByte}
+use Rattle.step.specs.Buffers.{blockIndex, pageIndex, registersAfter, arrayAfter, countsAfter, blockBad, pageFull, higherWritten, outOfOrder, findings, statusOf, outputByte}
 use Rattle.step.specs.Step.{replyOf, worked, acceptedBy, accepted, byVerdict, steady, stepOf}
 use Rattle.jobs.specs.Cycles.{ColumnBytes, RowBytes}
 use Rattle.thm_stations.specs.Jobs.{readOut, program, status, byte, move, cycles}
@@ -36,7 +36,7 @@ use Rattle.thm_stations.proofs.Isolation.{isolation, deletion}
 
 -- every definition of the step is computed
 computes : Unit {0}
-unfolding splice part andBytes orElse badRecord rowOf firstOf secondRow secondOf classOf offered bitOf bitsOf fieldWidth columnFrom rowFrom lunOf pageOf blockOf lunExists blockExists rowExists pageSize inLimits sized unknown beforeReset fits misplaced outOfRange lunWorks noCopyback othersBusy lineLow pastEnd notOffered notWorking lineHeld rules verdict sequenceAfter outputAfter lunsAfter selectedAfter clearAfter highAfter targetAfter targetRefused workOf recordSound usable blockIndex pageIndex registersAfter arrayAfter countsAfter blockBad pageFull findings statusOf outputByte replyOf worked acceptedBy accepted byVerdict steady stepOf those serial after log end
+unfolding splice part andBytes orElse badRecord rowOf firstOf secondRow secondOf classOf offered bitOf bitsOf fieldWidth columnFrom rowFrom lunOf pageOf blockOf lunExists blockExists rowExists pageSize inLimits sized unknown beforeReset fits misplaced outOfRange lunWorks noCopyback othersBusy lineLow pastEnd notOffered notWorking lineHeld rules verdict sequenceAfter outputAfter keptAfter lunsAfter selectedAfter clearAfter highAfter targetAfter targetRefused workOf recordSound usable blockIndex pageIndex registersAfter arrayAfter countsAfter blockBad pageFull higherWritten outOfOrder someSet findings statusOf outputByte replyOf worked acceptedBy accepted byVerdict steady stepOf those serial after log end
 computes = tt
 
 -- a run gets to the start

@@ -4,23 +4,23 @@
 use mathlib.Core.Path.{_≡_, refl, ap, _∙_}
 use mathlib.Core.List.{List, [], _∷_}
 use mathlib.Core.Bool.{Bool, true, false}
-use Prim.Native.Nat.{ℕ, _+_, _*_, _<_}
+use Prim.Native.Nat.{ℕ, _+_, _-_, _*_, _<_}
 use native.Mathlib.Nat.{le-refl}
 use native.Mathlib.Omega.{arith}
 use lib.ListN.{length, getD, set, length-replicate, length-set}
-use Rattle.slices.specs.Cells.{splice, part, andBytes}
+use Rattle.slices.specs.Cells.{splice, part, andBytes, someSet}
 use Rattle.slices.proofs.Anded.{length-and}
 use Rattle.slices.proofs.Splice.{piece}
 use Rattle.slices.proofs.Parts.{parts-alike, getD-alike, set-splice}
-use Rattle.target.specs.Address.{lunOf, rowExists}
+use Rattle.target.specs.Address.{lunOf, pageOf, rowExists}
 use Rattle.target.specs.Sizes.{pageSize}
 use Rattle.target.specs.declared.Geometry.{Geometry}
 use Rattle.target.specs.declared.Row.{Row}
 use Rattle.target.specs.declared.Work.{Work}
 use Rattle.target.specs.declared.Work.the-variants.{Nothing, ClearAll, ClearOne, Load, Put, Program, Erase}
-use Rattle.step.specs.Buffers.{pageIndex, registersAfter, arrayAfter, countsAfter}
+use Rattle.step.specs.Buffers.{pageIndex, higherWritten, registersAfter, arrayAfter, countsAfter}
 use Rattle.step.specs.Step.{Buffers, worked, Ready}
-use Rattle.step.proofs.Places.{page-below, page-bytes-end}
+use Rattle.step.proofs.Places.{page-below, page-bytes-end, page-parts, row-page, row-block}
 use Rattle.thm_kept.proofs.Lengths.{part-length}
 use Rattle.thm_stations.specs.Isolated.{lunBytes, lunPages}
 use Rattle.thm_stations.proofs.Edits.{Edit, as-is, put, put-alike}
@@ -58,6 +58,17 @@ module _ (g : Geometry) (b c : Buffers) (sizes : SizesOf g b) (sizesʳ : SizesOf
   pub count-alike : (r : Row) → rowExists g r ≡ true → CountsAgree g (lunOf g r) b c
       → getD (b .counts) (pageIndex g r) 0 ≡ getD (c .counts) (pageIndex g r) 0
   count-alike r there a = rw (page-place g r) (getD-alike (b .counts) (c .counts) (lunOf g r * lunPages g) (lunPages g) a (pageWithin g r) (page-within g r there))
+
+  -- the counts of the higher pages of its block
+  pub higher-alike : (r : Row) → rowExists g r ≡ true → CountsAgree g (lunOf g r) b c
+      → higherWritten g r (b .counts) ≡ higherWritten g r (c .counts)
+  unfolding higherWritten
+  higher-alike r there a =
+      let high = block-high g r (row-block g r there) in
+      ap someSet
+      (parts-alike (b .counts) (c .counts) (lunOf g r * lunPages g) (lunPages g) a (pageIndex g r + 1) (g .pages - (pageOf g r + 1))
+      (omega (arith, page-low g r))
+      (omega (arith, page-parts g r, row-page g r there, high)))
 
   -- a whole register is replaced
   replaced : (l : ℕ) (new newʳ : List ℕ) → new ≡ newʳ → length new ≡ pageSize g

@@ -18,7 +18,7 @@ use Rattle.target.specs.declared.Verdict.the-variants.{Accepted, Refused}
 use Rattle.target.proofs.Both.{meant}
 use Rattle.rules.specs.Rules.{fits, misplaced, verdict}
 use Rattle.rules.proofs.Passed.{all-passed}
-use Rattle.effects.specs.Effects.{sequenceAfter, outputAfter, lunsAfter, clearAfter, highAfter, targetAfter, dropped, targetRefused, workOf}
+use Rattle.effects.specs.Effects.{sequenceAfter, outputAfter, keptAfter, lunsAfter, clearAfter, highAfter, targetAfter, dropped, targetRefused, workOf}
 use Rattle.step.specs.Buffers.{findings, arrayAfter, registersAfter, countsAfter}
 use Rattle.step.specs.Step.{Buffers, Outcome, replyOf, worked, acceptedBy, accepted, byVerdict, steady, State}
 use Rattle.step.proofs.Sound.{sound, Passes, passes}
@@ -32,7 +32,7 @@ use Rattle.thm_stations.proofs.Agreement.{Parts, Edited, unedited}
 use Rattle.thm_stations.proofs.OwnWork.{worked-edited}
 use Rattle.thm_stations.proofs.Records.{Changed, as-were, become-by}
 use Rattle.thm_stations.proofs.Halves.{Fixed, fixedOf, made, refixed}
-use Rattle.thm_stations.proofs.Course.{decoder, CycleOf, Course, Spared, spared-all, spared-behind, Standing, equal, Alike}
+use Rattle.thm_stations.proofs.Course.{held, CycleOf, Course, Spared, spared-all, spared-behind, Standing, equal, Alike}
 use Rattle.thm_stations.proofs.Verdicts.{verdict-alike, verdict-finish}
 use Rattle.thm_stations.proofs.Effects.{work-mine, luns-changed, decoder-alike, findings-alike, reply-alike, or-none, fixed-kept}
 
@@ -47,7 +47,7 @@ pub record Moved (k : Fixed) (l : ℕ) (s u : State) (x y : Outcome) : Type 0 wh
   pub fixed : fixedOf (x .target) ≡ k
   pub fixedʳ : fixedOf (y .target) ≡ k
 
--- a refused bus cycle drops sequence and output
+-- a refused bus cycle drops sequence, output and memory
 refused-decoder : (t : Target) (c : Cycle) → targetRefused t (eventOf c) .decoder ≡ dropped
 unfolding targetRefused badRecord
 refused-decoder t (command v) = refl
@@ -91,16 +91,16 @@ module _ (params flags : List ℕ) where
 
   module _ (k : Fixed) (on : k .clear ≡ true) (l : ℕ) where
     -- a cycle of a job, from two states with one sequence
-    module _ (a b : ℕ) (xs ys : List Lun) (q : Sequence) (o p : Output) (B C : Buffers) (c : Cycle) (cs : List Cycle) where
+    module _ (a b : ℕ) (xs ys : List Lun) (q : Sequence) (o p i j : Output) (B C : Buffers) (c : Cycle) (cs : List Cycle) where
       abbrev leftTarget : Target
-      leftTarget = made k a xs (decoder q o)
+      leftTarget = made k a xs (held q o i)
 
       abbrev rightTarget : Target
-      rightTarget = made k b ys (decoder q p)
+      rightTarget = made k b ys (held q p j)
 
       module _ (agreed : Agreed k l (stateOf leftTarget B) (stateOf rightTarget C)) (standing : Standing (c ∷ cs) o p) (keeps : CycleOf (k .geometry) l c q o) where
         cycle-accepted : verdict leftTarget (eventOf c) ≡ Accepted → (found : Findings)
-            → found ≡ findings (k .geometry) q (eventOf c) (B .counts) flags
+            → found ≡ findings (k .geometry) (k .words) q (eventOf c) (B .counts) flags
             → Moved k l (stateOf leftTarget B) (stateOf rightTarget C) (acceptedBy leftTarget (eventOf c) params B found) (acceptedBy rightTarget (eventOf c) params C found)
         unfolding acceptedBy targetAfter
         cycle-accepted held found told =
@@ -108,21 +108,21 @@ module _ (params flags : List ℕ) where
             let u = passing (stateOf leftTarget B) (agreed .fine) in
             let uʳ = passing (stateOf rightTarget C) (agreed .fineʳ) in
             record {
-              reply = reply-alike k l a b xs ys (agreed .lun) params B C (agreed .parts .registers) q c standing keeps (all-passed leftTarget (eventOf c) held .rule-8);
+              reply = reply-alike k l a b xs ys (agreed .lun) params B C (agreed .parts .registers) q c i j standing keeps (all-passed leftTarget (eventOf c) held .rule-8);
               luns = luns-changed g l xs ys (agreed .lun) q o c found keeps;
               buffers = worked-edited g B C (u .sizes) (uʳ .sizes) (workOf g (k .clear) q (eventOf c) found) l
                   (work-ready leftTarget (eventOf c) (B .counts) flags (u .record-sound) held found told)
                   (work-mine g l (k .clear) on q o c found keeps)
                   (agreed .parts);
-              fixed = fixed-kept k l a xs q o o c found keeps;
-              fixedʳ = fixed-kept k l b ys q o p c found keeps;
+              fixed = fixed-kept k l a xs q o o i c found keeps;
+              fixedʳ = fixed-kept k l b ys q o p j c found keeps;
             }
 
         -- what a second command asks of the buffers has one answer
-        same-findings : findings (k .geometry) q (eventOf c) (B .counts) flags ≡ findings (k .geometry) q (eventOf c) (C .counts) flags
+        same-findings : findings (k .geometry) (k .words) q (eventOf c) (B .counts) flags ≡ findings (k .geometry) (k .words) q (eventOf c) (C .counts) flags
         same-findings =
             let u = passing (stateOf leftTarget B) (agreed .fine) in
-            findings-alike (k .geometry) l flags B C (u .sizes) (passing (stateOf rightTarget C) (agreed .fineʳ) .sizes) (agreed .parts .counts) q o c (sound leftTarget (u .record-sound) .sequence) keeps
+            findings-alike (k .geometry) l flags B C (u .sizes) (passing (stateOf rightTarget C) (agreed .fineʳ) .sizes) (agreed .parts .counts) (k .words) q o c (sound leftTarget (u .record-sound) .sequence) keeps
 
         cycle-moved : (v : Verdict) → verdict leftTarget (eventOf c) ≡ v
             → Moved k l (stateOf leftTarget B) (stateOf rightTarget C) (byVerdict v leftTarget (eventOf c) params B flags) (byVerdict v rightTarget (eventOf c) params C flags)
@@ -136,7 +136,7 @@ module _ (params flags : List ℕ) where
           → Alike (k .geometry) l cs (byVerdict v leftTarget (eventOf c) params B flags .target .decoder) (byVerdict v rightTarget (eventOf c) params C flags .target .decoder)
       unfolding byVerdict accepted acceptedBy targetAfter
       cycle-decoder standing course spared Accepted held =
-          decoder-alike (k .geometry) l q c cs a b standing course spared (accepted-fits leftTarget c held)
+          decoder-alike (k .geometry) l q c cs i j a b standing course spared (accepted-fits leftTarget c held)
       cycle-decoder standing course spared (Refused r) held =
           rw (refused-decoder leftTarget c, refused-decoder rightTarget c)
           (record { sequence = refl; standing = equal; course = spared-all (k .geometry) l cs spared; rest = spared-behind (k .geometry) l cs spared })
@@ -159,7 +159,7 @@ module _ (params flags : List ℕ) where
   -- a finish event leaves the decoder as it is
   finish-keeps : (f : ℕ) (t : Target) (b : Buffers) (v : Verdict)
       → byVerdict v t (finishOf f) params b flags .target .decoder ≡ t .decoder
-  unfolding byVerdict accepted acceptedBy targetAfter targetRefused sequenceAfter outputAfter
+  unfolding byVerdict accepted acceptedBy targetAfter targetRefused sequenceAfter outputAfter keptAfter
   finish-keeps f t b Accepted = refl
   finish-keeps f t b (Refused r) = refl
 
@@ -179,20 +179,20 @@ module _ (params flags : List ℕ) where
       pub moved : Moved k l s u (stepAt params flags s e) (stepAt params flags u e)
       pub alike : Alike (k .geometry) l cs (stepAt params flags s e .target .decoder) (stepAt params flags u e .target .decoder)
 
-    one-sequence : (a b : ℕ) (xs ys : List Lun) (q : Sequence) (o p : Output) (B C : Buffers) (c : Cycle) (cs : List Cycle)
+    one-sequence : (a b : ℕ) (xs ys : List Lun) (q : Sequence) (o p i j : Output) (B C : Buffers) (c : Cycle) (cs : List Cycle)
         → Standing (c ∷ cs) o p → Course (k .geometry) l (c ∷ cs) q o → Spared (k .geometry) l cs
-        → Agreed k l (stateOf (made k a xs (decoder q o)) B) (stateOf (made k b ys (decoder q p)) C)
-        → CycleMet cs (stateOf (made k a xs (decoder q o)) B) (stateOf (made k b ys (decoder q p)) C) (eventOf c)
+        → Agreed k l (stateOf (made k a xs (held q o i)) B) (stateOf (made k b ys (held q p j)) C)
+        → CycleMet cs (stateOf (made k a xs (held q o i)) B) (stateOf (made k b ys (held q p j)) C) (eventOf c)
     unfolding Course
-    one-sequence a b xs ys q o p B C c cs standing course spared agreed =
-        let t = made k a xs (decoder q o) in
-        let u = made k b ys (decoder q p) in
-        let same : verdict t (eventOf c) ≡ verdict u (eventOf c) = verdict-alike k l a b xs ys (agreed .lun) q c standing (course .0) in
+    one-sequence a b xs ys q o p i j B C c cs standing course spared agreed =
+        let t = made k a xs (held q o i) in
+        let u = made k b ys (held q p j) in
+        let same : verdict t (eventOf c) ≡ verdict u (eventOf c) = verdict-alike k l a b xs ys (agreed .lun) q c i j standing (course .0) in
         let is = by-verdict (stateOf t B) (eventOf c) (agreed .fine) in
         let isʳ = by-verdict (stateOf u C) (eventOf c) (agreed .fineʳ) in
         record {
-          moved = rw (is, isʳ, ← same) (cycle-moved k on l a b xs ys q o p B C c cs agreed standing (course .0) (verdict t (eventOf c)) refl);
-          alike = rw (is, isʳ, ← same) (cycle-decoder k on l a b xs ys q o p B C c cs standing course spared (verdict t (eventOf c)) refl);
+          moved = rw (is, isʳ, ← same) (cycle-moved k on l a b xs ys q o p i j B C c cs agreed standing (course .0) (verdict t (eventOf c)) refl);
+          alike = rw (is, isʳ, ← same) (cycle-decoder k on l a b xs ys q o p i j B C c cs standing course spared (verdict t (eventOf c)) refl);
         }
 
     pub cycle-met : (c : Cycle) (cs : List Cycle) (s u : State) → Agreed k l s u
@@ -200,9 +200,9 @@ module _ (params flags : List ℕ) where
     cycle-met c cs s u agreed alike =
         by-fixed k (λ s u. Agreed k l s u → Alike (k .geometry) l (c ∷ cs) (s .target .decoder) (u .target .decoder) → CycleMet cs s u (eventOf c))
         (λ a b xs ys d e B C near like.
-        let twin : Sequence → State = λ q. stateOf (made k b ys (decoder q (e .output))) C in
+        let twin : Sequence → State = λ q. stateOf (made k b ys (held q (e .output) (e .kept))) C in
         subst (λ (q : Sequence). Agreed k l (stateOf (made k a xs d) B) (twin q) → CycleMet cs (stateOf (made k a xs d) B) (twin q) (eventOf c)) (like .sequence)
-        (one-sequence a b xs ys (d .sequence) (d .output) (e .output) B C c cs (like .standing) (like .course) (like .rest))
+        (one-sequence a b xs ys (d .sequence) (d .output) (e .output) (d .kept) (e .kept) B C c cs (like .standing) (like .course) (like .rest))
         near)
         s u (agreed .fixed) (agreed .fixedʳ) agreed alike
 

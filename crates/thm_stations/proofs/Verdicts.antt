@@ -26,7 +26,7 @@ use Rattle.rules.specs.Rules.{unknown, beforeReset, fits, misplaced, outOfRange
 use Rattle.jobs.specs.Cycles.{Cycle, command, address, dataIn, dataOut}
 use Rattle.thm_stations.specs.Jobs.{eventOf, finishOf}
 use Rattle.thm_stations.proofs.Halves.{Fixed, made}
-use Rattle.thm_stations.proofs.Course.{decoder, isNobody, aimedFound, plain, plainly, GivenOf, OutputOf, CycleOf, Standing, equal}
+use Rattle.thm_stations.proofs.Course.{held, isNobody, aimedFound, plain, plainly, GivenOf, OutputOf, CycleOf, Standing, equal}
 
 -- rule 6 holds of no command of a job
 module _ (luns : List Lun) (selected : ℕ) where
@@ -79,20 +79,20 @@ module _ (k : Fixed) (l a b : ℕ) (xs ys : List Lun) (lun : lunAt xs l ≡ lunA
   output-alike (output.Signature at) q = refl
   output-alike (output.Feature at) q = refl
 
-  command-alike : (s : Sequence) (v : ℕ) (o p : Output) → plain v ≡ true
-      → verdict (made k a xs (decoder s o)) (eventOf (command v)) ≡ verdict (made k b ys (decoder s p)) (eventOf (command v))
+  command-alike : (s : Sequence) (v : ℕ) (o p i j : Output) → plain v ≡ true
+      → verdict (made k a xs (held s o i)) (eventOf (command v)) ≡ verdict (made k b ys (held s p j)) (eventOf (command v))
   unfolding verdict rules badRecord misplaced fits outOfRange notOffered lunWorks noCopyback pastEnd notWorking lineHeld
-  command-alike s v o p h = rw (calm xs a v h, calm ys b v h)
+  command-alike s v o p i j h = rw (calm xs a v h, calm ys b v h)
 
-  pub verdict-alike : (s : Sequence) (c : Cycle) {cs : List Cycle} {o p : Output} → Standing (c ∷ cs) o p
+  pub verdict-alike : (s : Sequence) (c : Cycle) {cs : List Cycle} {o p : Output} (i j : Output) → Standing (c ∷ cs) o p
       → CycleOf (k .geometry) l c s o
-      → verdict (made k a xs (decoder s o)) (eventOf c) ≡ verdict (made k b ys (decoder s p)) (eventOf c)
+      → verdict (made k a xs (held s o i)) (eventOf c) ≡ verdict (made k b ys (held s p j)) (eventOf c)
   unfolding CycleOf verdict rules badRecord beforeReset unknown misplaced fits othersBusy outOfRange notOffered lunWorks noCopyback lineLow pastEnd notWorking lineHeld
-  verdict-alike s (command v) {o = o} {p = p} standing keeps = command-alike s v o p (keeps .0)
-  verdict-alike s (address v) standing keeps =
+  verdict-alike s (command v) {o = o} {p = p} i j standing keeps = command-alike s v o p i j (keeps .0)
+  verdict-alike s (address v) i j standing keeps =
       rw (names-alike (completed s v) keeps, lacks-alike (completed s v) keeps)
-  verdict-alike s (dataIn v) standing keeps = refl
-  verdict-alike s dataOut {o = o} equal keeps = rw (output-alike o keeps)
+  verdict-alike s (dataIn v) i j standing keeps = refl
+  verdict-alike s dataOut {o = o} i j equal keeps = rw (keeps .0, output-alike o (keeps .1))
 
   pub verdict-finish : (d e : Decoder) → verdict (made k a xs d) (finishOf l) ≡ verdict (made k b ys e) (finishOf l)
   unfolding verdict rules badRecord beforeReset unknown misplaced othersBusy outOfRange notOffered lunWorks noCopyback lineLow pastEnd notWorking lineHeld

@@ -73,7 +73,7 @@ module _ (params flags : List ℕ) where
         ≡ true
     pub four : length (s .target .luns) ≡ 4
 
-  -- the start: after the first reset, no sequence open, program-clear on; any output may still be open
+  -- the start: after the first reset, no sequence open, program-clear on; any output may still be open, and any kept
   pub record Start (s : State) : Type 0 where
     pub fine : Fine s
     pub reset : s .target .seen ≡ true

@@ -1,6 +1,6 @@
 -- Whole jobs (document 01, "Whole jobs of demand 3"; document 02, A1, both halves of a copyback), and the LUN that a job's row names. Their bus cycles are those of crate
 -- `jobs`; what demand 3 adds is the 85h moves of a program, which are no part of the jobs written and read (document 02, A5).
--- Bytes are free; page, block and column may be out of range.
+-- Bytes are free; page, block and column may be out of range. Data out after a bare 00h, and 05h, are no jobs (document 02, A2).
 use Prim.Native.Nat.{ℕ}
 use mathlib.Core.List.{List, [], _∷_}
 use Rattle.target.specs.Address.{rowFrom, lunOf}

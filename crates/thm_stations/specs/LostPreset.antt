@@ -39,7 +39,7 @@ readyState seen clear = record {
     seen = seen;
     selected = 0;
     luns = allReady;
-    decoder = record { sequence = Idle; output = Nothing };
+    decoder = record { sequence = Idle; output = Nothing; kept = Nothing };
   };
   buffers = record { array = replicate 33792 0xff; registers = replicate 1056 0xff; counts = replicate 64 0 };
 }

@@ -21,7 +21,7 @@ use Rattle.target.specs.declared.Verdict.{Verdict}
 use Rattle.target.specs.declared.Verdict.the-variants as verdicts
 use Rattle.rules.specs.Rules.{verdict, beforeReset, unknown, misplaced, fits, othersBusy, outOfRange, lunWorks, noCopyback, lineLow}
 use Rattle.rules.proofs.ByKind.{command-verdict, address-verdict}
-use Rattle.effects.specs.Effects.{workOf, targetAfter, lunsAfter, sequenceAfter, outputAfter}
+use Rattle.effects.specs.Effects.{workOf, targetAfter, lunsAfter, sequenceAfter, outputAfter, keptAfter}
 use Rattle.step.specs.Buffers.{findings, registersAfter, arrayAfter, countsAfter}
 use Rattle.step.specs.Step.{Buffers, Outcome, replyOf, worked, acceptedBy, accepted}
 use Rattle.thm_steps.specs.Steps.{command, address, due, lastRow, filling, Copyback}
@@ -80,7 +80,7 @@ module _ (t : Target) (none : hasOption (t .words) 4 ≡ false) where
 
 module _ (t : Target) (params : List ℕ) (b : Buffers) (flags : List ℕ) where
   pub copyback : Copyback t params b flags
-  unfolding accepted acceptedBy replyOf worked workOf targetAfter lunsAfter sequenceAfter outputAfter findings registersAfter arrayAfter countsAfter rowOf firstOf secondOf secondRow
+  unfolding accepted acceptedBy replyOf worked workOf targetAfter lunsAfter sequenceAfter outputAfter keptAfter findings registersAfter arrayAfter countsAfter rowOf firstOf secondOf secondRow
   copyback = record {
     only-here = λ h. place-35 (t .decoder .sequence) (command-fits t params b flags 0x35 refl h);
     copies = λ c r s h. ap (λ (o : Outcome). o .buffers) (left-at t (command 0x35) params b flags (due first.Read c r) s h);

@@ -1,7 +1,7 @@
 -- "Place", as specs/Steps.antt states it: what holds of every first command is one test, computed over their list.
 -- Assumes nothing.
 use mathlib.Core.Path.{_≡_, refl, sym, ap, _∙_}
-use mathlib.Core.Bool.{Bool, true, false, not, false≢true}
+use mathlib.Core.Bool.{Bool, true, false, _||_, not, false≢true}
 use mathlib.Core.List.{List}
 use Prim.Native.Nat.{ℕ}
 use lib.Dec.{eqb}
@@ -15,13 +15,16 @@ use Rattle.target.specs.declared.Row.{Row}
 use Rattle.target.specs.declared.Geometry.{Geometry}
 use Rattle.target.specs.declared.Target.{Target}
 use Rattle.target.specs.declared.First.{First}
+use Rattle.target.specs.declared.commands.FirstFound.{FirstFound}
+use Rattle.target.specs.declared.commands.FirstFound.the-variants as found
 use Rattle.target.specs.declared.commands.SecondFound.{SecondFound}
 use Rattle.target.specs.declared.commands.SecondFound.the-variants as second
 use Rattle.target.specs.declared.Sequence.{Sequence}
 use Rattle.target.specs.declared.views.Ender.{Ender}
 use Rattle.target.specs.declared.Output.{Output}
 use Rattle.target.specs.declared.Output.the-variants as output
-use Rattle.target.proofs.Firsts.{each-first, named}
+use Rattle.target.proofs.Both.{other}
+use Rattle.target.proofs.Firsts.{each-first}
 use Rattle.effects.specs.Effects.{shown, endedOutput, firstOutput, commandOutput, targetAfter, outputAfter}
 use Rattle.step.specs.Step.{Buffers, Outcome, acceptedBy, accepted}
 use Rattle.thm_kept.proofs.Choice.{by-pick}
@@ -36,6 +39,18 @@ no-second (second.Found s) h = absurd (false≢true (sym h))
 no-reset : (f : First) → eqb (byteOf f) 0xff ≡ false
 unfolding rowOf
 no-reset f = not-true (eqb (byteOf f) 0xff) (each-first (λ (x : First). not (eqb (byteOf x) 0xff)) refl f)
+
+-- the command that a byte names waits for address cycles where a command of that byte does: 05h stands for two
+abbrev atOnce : FirstFound → Bool
+atOnce found.Nothing = false
+atOnce (found.Found f) = eqb (cyclesOf f) 0
+
+waits-too : (f : First) → eqb (cyclesOf f) 0 ≡ false → atOnce (firstOf (byteOf f)) ≡ false
+unfolding rowOf firstOf
+waits-too f some =
+    not-true (atOnce (firstOf (byteOf f)))
+    (other (eqb (cyclesOf f) 0) (not (atOnce (firstOf (byteOf f))))
+    (each-first (λ (x : First). eqb (cyclesOf x) 0 || not (atOnce (firstOf (byteOf x)))) refl f) some)
 
 -- where a first command's byte is a second command too, it puts no register out
 abbrev showsFound : SecondFound → Bool
@@ -55,10 +70,12 @@ module _ (g : Geometry) (selected : ℕ) where
   second-ends v h s =
       by-ending (λ (x : Ender). endedOutput g selected x ≡ output.Nothing) v refl (λ f c r. found-ends (secondOf v) f c r h) s
 
+  found-opens : (k : FirstFound) → atOnce k ≡ false → firstOutput selected k ≡ output.Nothing
+  found-opens found.Nothing h = refl
+  found-opens (found.Found f) h = ap (λ (x : Bool). pick x (shown (thenOf f) selected 0 output.Nothing) output.Nothing) h
+
   first-ends : (f : First) → eqb (cyclesOf f) 0 ≡ false → firstOutput selected (firstOf (byteOf f)) ≡ output.Nothing
-  first-ends f some =
-      ap (firstOutput selected) (named f)
-      ∙ ap (λ (x : Bool). pick x (shown (thenOf f) selected 0 output.Nothing) output.Nothing) some
+  first-ends f some = found-opens (firstOf (byteOf f)) (waits-too f some)
 
   command-ends : (f : First) → eqb (cyclesOf f) 0 ≡ false → (s : Sequence) → commandOutput g selected s (byteOf f) ≡ output.Nothing
   command-ends f some s =

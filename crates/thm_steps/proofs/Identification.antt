@@ -18,15 +18,15 @@ use Rattle.target.specs.declared.Refusal.the-variants.{OutOfRange, PastEnd, Not
 use Rattle.target.specs.declared.Reply.the-variants as reply
 use Rattle.target.specs.declared.Verdict.{Verdict}
 use Rattle.target.specs.declared.Verdict.the-variants as verdicts
-use Rattle.target.specs.Place.{hasOutput}
+use Rattle.target.specs.Place.{putOut, hasOutput}
 use Rattle.rules.specs.Rules.{verdict, beforeReset, misplaced, fits, outOfRange, notOffered, pastEnd, outputWorks, outputEnded}
 use Rattle.rules.proofs.ByKind.{address-verdict, in-verdict}
-use Rattle.effects.specs.Effects.{workOf, targetAfter, lunsAfter, sequenceAfter, outputAfter, clearAfter}
+use Rattle.effects.specs.Effects.{advanced, workOf, targetAfter, lunsAfter, sequenceAfter, outputAfter, keptAfter, clearAfter}
 use Rattle.step.specs.Buffers.{findings, registersAfter, arrayAfter, countsAfter, outputByte}
 use Rattle.step.specs.Step.{Buffers, Outcome, replyOf, worked, acceptedBy, accepted}
 use Rattle.thm_steps.specs.Steps.{address, dataIn, dataOut, RefusedWith, Gives, setting, Identification, Live}
-use Rattle.thm_steps.proofs.Taken.{put, seen-out, verdict-at, accepts, refuses, left-at}
-use Rattle.thm_steps.proofs.Status.{none-out, given-out}
+use Rattle.thm_steps.proofs.Taken.{put, verdict-at, accepts, refuses, left-at}
+use Rattle.thm_steps.proofs.Status.{puts-out, none-out, given-out}
 
 -- EEh and EFh know address 01h only
 only-ee : (t : Target) (v : ℕ) → eqb v 0x01 ≡ false → verdict (put t true (Single first.GetFeatures) (t .decoder .output)) (address v) ≡ verdicts.Refused OutOfRange
@@ -59,42 +59,43 @@ module _ (t : Target) (v : ℕ) where
   offers-not = refl
 
 module _ (t : Target) (params : List ℕ) (b : Buffers) (flags : List ℕ) where
-  given : (o n : Output) (v : ℕ) → t .decoder .output ≡ o → Live t params b flags → hasOutput o ≡ true → outputWorks (t .luns) o ≡ false → outputEnded (t .geometry) o ≡ false
-      → accepted (put t true (t .decoder .sequence) o) dataOut params b flags .reply ≡ reply.Byte v
-      → accepted (put t true (t .decoder .sequence) o) dataOut params b flags .target .decoder .output ≡ n
-      → accepted (put t true (t .decoder .sequence) o) dataOut params b flags .buffers ≡ b
+  -- a data-out cycle gives the byte of what it puts out, which is then a place further
+  pub given : (o n : Output) (v : ℕ) → putOut (t .decoder) ≡ o → Live t params b flags → hasOutput o ≡ true → outputWorks (t .luns) o ≡ false → outputEnded (t .geometry) o ≡ false
+      → outputByte t params (b .registers) o ≡ v → advanced o ≡ n
       → Gives t params b flags v n
-  given o n v s live h k l x y z =
-      let p = given-out t params b flags o s live h k l in
-      (ap (λ (w : Outcome). w .reply) p ∙ x, (ap (λ (w : Outcome). w .target .decoder .output) p ∙ y, ap (λ (w : Outcome). w .buffers) p ∙ z))
+  unfolding accepted acceptedBy replyOf worked workOf targetAfter outputAfter registersAfter arrayAfter countsAfter
+  given o n v s live h k l x y =
+      let p = given-out t params b flags o s live h k l in (
+        ap (λ (w : Outcome). w .reply) p ∙ ap (λ (w : Output). reply.Byte (outputByte t params (b .registers) w)) s ∙ ap reply.Byte x,
+        (ap (λ (w : Outcome). w .target .decoder .output) p ∙ ap advanced s ∙ y, ap (λ (w : Outcome). w .buffers) p),
+      )
 
-  ended : (o : Output) → t .decoder .output ≡ o → Live t params b flags → hasOutput o ≡ true → outputWorks (t .luns) o ≡ false → outputEnded (t .geometry) o ≡ true
+  pub ended : (o : Output) → putOut (t .decoder) ≡ o → Live t params b flags → hasOutput o ≡ true → outputWorks (t .luns) o ≡ false → outputEnded (t .geometry) o ≡ true
       → RefusedWith t params b flags 8 dataOut
   ended o s live h k l =
-      refuses t dataOut params b flags PastEnd 8 refl (live .passes)
-      (ap (λ (x : Target). verdict x dataOut) (seen-out t o (live .seen) s) ∙ none-out t o h k l)
+      refuses t dataOut params b flags PastEnd 8 refl (live .passes) (puts-out t o (live .seen) s ∙ none-out t o h k l)
 
   pub identification : Identification t params b flags
-  unfolding accepted acceptedBy replyOf worked workOf targetAfter lunsAfter sequenceAfter outputAfter clearAfter findings registersAfter arrayAfter countsAfter outputByte rowOf
+  unfolding accepted acceptedBy replyOf worked workOf targetAfter lunsAfter sequenceAfter outputAfter keptAfter clearAfter findings registersAfter arrayAfter countsAfter outputByte rowOf
   identification = record {
     ids = λ s h.
         let p = left-at t (address 0x00) params b flags (Single first.ReadId) s h in
         record { decoder = ap (λ (o : Outcome). o .target .decoder) p; luns = ap (λ (o : Outcome). o .target .luns) p; buffers = ap (λ (o : Outcome). o .buffers) p };
-    maker = λ s live. given (output.Ids 0) (output.Ids 1) (t .ids .maker) s live refl refl refl refl refl refl;
-    device = λ s live. given (output.Ids 1) (output.Ids 2) (t .ids .device) s live refl refl refl refl refl refl;
+    maker = λ s live. given (output.Ids 0) (output.Ids 1) (t .ids .maker) s live refl refl refl refl refl;
+    device = λ s live. given (output.Ids 1) (output.Ids 2) (t .ids .device) s live refl refl refl refl refl;
     no-third = λ s live. ended (output.Ids 2) s live refl refl refl;
     signature = λ s h.
         let p = left-at t (address 0x20) params b flags (Single first.ReadId) s h in
         record { decoder = ap (λ (o : Outcome). o .target .decoder) p; luns = ap (λ (o : Outcome). o .target .luns) p; buffers = ap (λ (o : Outcome). o .buffers) p };
-    O = λ s live. given (output.Signature 0) (output.Signature 1) 0x4f s live refl refl refl refl refl refl;
-    N = λ s live. given (output.Signature 1) (output.Signature 2) 0x4e s live refl refl refl refl refl refl;
-    F = λ s live. given (output.Signature 2) (output.Signature 3) 0x46 s live refl refl refl refl refl refl;
-    I = λ s live. given (output.Signature 3) (output.Signature 4) 0x49 s live refl refl refl refl refl refl;
+    O = λ s live. given (output.Signature 0) (output.Signature 1) 0x4f s live refl refl refl refl refl;
+    N = λ s live. given (output.Signature 1) (output.Signature 2) 0x4e s live refl refl refl refl refl;
+    F = λ s live. given (output.Signature 2) (output.Signature 3) 0x46 s live refl refl refl refl refl;
+    I = λ s live. given (output.Signature 3) (output.Signature 4) 0x49 s live refl refl refl refl refl;
     no-fifth = λ s live. ended (output.Signature 4) s live refl refl refl;
     page = λ s h.
         let p = left-at t (address 0x00) params b flags (Single first.ParameterPage) s h in
         record { decoder = ap (λ (o : Outcome). o .target .decoder) p; luns = ap (λ (o : Outcome). o .target .luns) p; buffers = ap (λ (o : Outcome). o .buffers) p };
-    page-byte = λ at h s live. given (output.Parameters at) _ _ s live refl refl (lt-leb 768 at h) refl refl refl;
+    page-byte = λ at h s live. given (output.Parameters at) _ _ s live refl refl (lt-leb 768 at h) refl refl;
     page-ends = λ s live. ended (output.Parameters 768) s live refl refl refl;
     get = λ s h.
         let p = left-at t (address 0x01) params b flags (Single first.GetFeatures) s h in
@@ -102,10 +103,10 @@ module _ (t : Target) (params : List ℕ) (b : Buffers) (flags : List ℕ) where
     get-only = λ v h s live. refuses t (address v) params b flags OutOfRange 4 refl (live .passes) (verdict-at t params b flags (Single first.GetFeatures) (address v) s live ∙ only-ee t v h);
     set-bytes = λ s h. ap (λ (o : Outcome). o .target .decoder .sequence) (left-at t (address 0x01) params b flags (Single first.SetFeatures) s h);
     set-only = λ v h s live. refuses t (address v) params b flags OutOfRange 4 refl (live .passes) (verdict-at t params b flags (Single first.SetFeatures) (address v) s live ∙ only-ef t v h);
-    p1-out = λ s live. given (output.Feature 0) (output.Feature 1) (pick (t .clear) 0x40 0) s live refl refl refl refl refl refl;
-    p2-out = λ s live. given (output.Feature 1) (output.Feature 2) 0 s live refl refl refl refl refl refl;
-    p3-out = λ s live. given (output.Feature 2) (output.Feature 3) 0 s live refl refl refl refl refl refl;
-    p4-out = λ s live. given (output.Feature 3) (output.Feature 4) 0 s live refl refl refl refl refl refl;
+    p1-out = λ s live. given (output.Feature 0) (output.Feature 1) (pick (t .clear) 0x40 0) s live refl refl refl refl refl;
+    p2-out = λ s live. given (output.Feature 1) (output.Feature 2) 0 s live refl refl refl refl refl;
+    p3-out = λ s live. given (output.Feature 2) (output.Feature 3) 0 s live refl refl refl refl refl;
+    p4-out = λ s live. given (output.Feature 3) (output.Feature 4) 0 s live refl refl refl refl refl;
     four-out = λ s live. ended (output.Feature 4) s live refl refl refl;
     p1-offered = λ v value s live h.
         ap (λ (o : Outcome). o .reply) (accepts t (dataIn v) params b flags (live .passes)

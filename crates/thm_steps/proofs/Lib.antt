@@ -4,6 +4,8 @@ pub mod First
 pub mod Reset
 pub mod Read
 pub mod Program
+pub mod PageOrder
 pub mod Copyback
 pub mod Status
 pub mod Identification
+pub mod Polling

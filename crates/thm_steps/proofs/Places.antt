@@ -2,12 +2,12 @@
 -- first command.
 -- Assumes nothing.
 use mathlib.Core.Path.{_≡_, refl, sym, ap, _∙_}
-use mathlib.Core.Bool.{Bool, true, false, _||_, not, false≢true}
+use mathlib.Core.Bool.{Bool, true, false, _&&_, _||_, not, false≢true}
 use Prim.Native.Nat.{ℕ}
 use lib.Dec.{eqb}
 use borrow.Author.Tests.{eqb-true, not-true}
 use Rattle.target.specs.Pick.{pick}
-use Rattle.target.specs.Commands.{firstCommands, rowOf, firstOf, byteOf, secondRow, classOf, isFirst, closesCopyback, waitsSecond}
+use Rattle.target.specs.Commands.{firstCommands, rowOf, firstOf, byteOf, secondRow, classOf, isFirst, inPage, closesCopyback, waitsSecond}
 use Rattle.target.specs.Views.{endedBy, endsWith, ending}
 use Rattle.target.specs.Place.{isOpen, isEnded, commandFits}
 use Rattle.target.specs.declared.Column.{Column}
@@ -22,7 +22,7 @@ use Rattle.target.specs.declared.views.Ender.{Ender}
 use Rattle.target.specs.declared.views.Ender.the-variants as ender
 use Rattle.target.specs.declared.Sequence.{Sequence}
 use Rattle.target.specs.declared.Sequence.the-variants.{Idle, Columns, Rows, Single, Due, Filling, Moving, Setting}
-use Rattle.target.proofs.Both.{both3}
+use Rattle.target.proofs.Both.{both, both3}
 use Rattle.target.proofs.Firsts.{every, each-first, named}
 use Rattle.step.specs.Usable.{columnHeld, rowHeld, sequenceSound}
 use Rattle.thm_kept.proofs.Choice.{by-pick}
@@ -54,12 +54,16 @@ ended-test : (x : Bool) (k : Ender) → isEnded (pick x k ender.Nothing) ≡ tru
 ended-test true k h = refl
 ended-test false k h = absurd (false≢true h)
 
+-- this first command has this byte, and is not 05h within the parameter page, whose byte names another
+abbrev hasByte : ℕ → First → Bool
+hasByte w f = eqb (byteOf f) w && not (inPage f)
+
 -- of the first commands only the one of this byte passes this test
-only-first : (p : First → Bool) (w : ℕ) (g : First) → every (λ (x : First). not (p x) || eqb (byteOf x) w) firstCommands ≡ true → firstOf w ≡ found.Found g
+only-first : (p : First → Bool) (w : ℕ) (g : First) → every (λ (x : First). not (p x) || hasByte w x) firstCommands ≡ true → firstOf w ≡ found.Found g
     → (f : First) → p f ≡ true → f ≡ g
 only-first p w g test told f h =
-    let same = eqb-true (byteOf f) w (modus (p f) (eqb (byteOf f) w) (each-first (λ (x : First). not (p x) || eqb (byteOf x) w) test f) h) in
-    let both-found : found.Found f ≡ found.Found g = sym (named f) ∙ ap firstOf same ∙ told in
+    let is = both (eqb (byteOf f) w) (not (inPage f)) (modus (p f) (hasByte w f) (each-first (λ (x : First). not (p x) || hasByte w x) test f) h) in
+    let both-found : found.Found f ≡ found.Found g = sym (named f (not-true (inPage f) (is .1))) ∙ ap firstOf (eqb-true (byteOf f) w (is .0)) ∙ told in
     cc
 
 -- a second command that is neither 10h nor 85h

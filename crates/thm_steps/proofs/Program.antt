@@ -32,14 +32,14 @@ use Rattle.effects.specs.Effects.{workOf, targetAfter, lunsAfter, sequenceAfter
 use Rattle.step.specs.Usable.{sequenceSound}
 use Rattle.step.proofs.Sound.{sound, passes, filling-row}
 use Rattle.step.proofs.Places.{page-bytes-end, register-end}
-use Rattle.step.specs.Buffers.{pageIndex, blockBad, pageFull, findings, registersAfter, arrayAfter, countsAfter}
+use Rattle.step.specs.Buffers.{pageIndex, blockBad, pageFull, outOfOrder, findings, registersAfter, arrayAfter, countsAfter}
 use Rattle.step.specs.Step.{Buffers, Outcome, replyOf, worked, acceptedBy, accepted}
 use Rattle.thm_steps.specs.Steps.{command, address, dataIn, due, lastRow, filling, moving, working, stillOpen, Taken, Program, Erase}
 use Rattle.thm_steps.proofs.Places.{place-10, place-85, place-d0}
 use Rattle.thm_steps.proofs.Taken.{taken, command-fits, put, verdict-at, accepts, left-at, left-first, and-none}
 
 -- a byte of a part
-part-byte : (xs : List ℕ) (at k i : ℕ) → i < k → getD (part xs at k) i 0 ≡ getD xs (at + i) 0
+pub part-byte : (xs : List ℕ) (at k i : ℕ) → i < k → getD (part xs at k) i 0 ≡ getD xs (at + i) 0
 unfolding part
 part-byte xs at k i h = getD-take k (drop at xs) i 0 h ∙ getD-drop at xs i 0
 
@@ -66,8 +66,8 @@ fits-10 : (t : Target) (f : First) (r : Row) (c : Column) → t .high ≡ true �
 unfolding orElse rowOf firstOf secondOf secondRow classOf offered beforeReset unknown misplaced fits othersBusy lineLow
 fits-10 t f r c h = command-verdict (put t true (filling f r c) (t .decoder .output)) 0x10 ∙ (rw (h))
 
-neither : (a b : Bool) → a ≡ false → b ≡ false → (a || b) ≡ false
-neither a b h k = rw (h, k)
+none-of : (a b c : Bool) → a ≡ false → b ≡ false → c ≡ false → (a || b || c) ≡ false
+none-of a b c h k l = rw (h, k, l)
 
 module _ (t : Target) (params : List ℕ) (b : Buffers) (flags : List ℕ) where
   -- the buffers where a test chooses between this work and none
@@ -99,9 +99,9 @@ module _ (t : Target) (params : List ℕ) (b : Buffers) (flags : List ℕ) where
   program = record {
     only-moves = λ h inside. place-85 (t .decoder .sequence) inside (command-fits t params b flags 0x85 refl h);
     only-here = λ h. place-10 (t .geometry) (t .decoder .sequence) (sound-at (command 0x10) h) (command-fits t params b flags 0x10 refl h);
-    each-byte = λ f r c s h good room i low.
+    each-byte = λ f r c s h good room order i low.
         ap (λ (o : Outcome). getD (o .buffers .array) (pageIndex (t .geometry) r * pageSize (t .geometry) + i) 0) (left-at t (command 0x10) params b flags (filling f r c) s h)
-        ∙ ap (λ (x : Bool). getD (either (work.Program r) (not x) .array) (pageIndex (t .geometry) r * pageSize (t .geometry) + i) 0) (neither (blockBad (t .geometry) r flags) (pageFull (t .geometry) r (b .counts)) good room)
+        ∙ ap (λ (x : Bool). getD (either (work.Program r) (not x) .array) (pageIndex (t .geometry) r * pageSize (t .geometry) + i) 0) (none-of (blockBad (t .geometry) r flags) (pageFull (t .geometry) r (b .counts)) (outOfOrder (t .geometry) (t .words) r (b .counts)) good room order)
         ∙ anded f r c s h i low;
     clears-all = λ off h.
         ap (λ (o : Outcome). o .buffers) (left-first t params b flags 0x80 refl refl h)
@@ -127,12 +127,12 @@ module _ (t : Target) (params : List ℕ) (b : Buffers) (flags : List ℕ) where
     moves-high = λ f r low v s h.
         let p = left-at t (address v) params b flags (moving f r 1 low) s h in
         (ap (λ (o : Outcome). o .target .decoder .sequence) p, ap (λ (o : Outcome). o .buffers) p);
-    programs = λ f r c s h good room.
+    programs = λ f r c s h good room order.
         ap (λ (o : Outcome). o .buffers) (left-at t (command 0x10) params b flags (filling f r c) s h)
-        ∙ ap (λ (x : Bool). either (work.Program r) (not x)) (neither (blockBad (t .geometry) r flags) (pageFull (t .geometry) r (b .counts)) good room);
-    starts = λ f r c s h good room.
+        ∙ ap (λ (x : Bool). either (work.Program r) (not x)) (none-of (blockBad (t .geometry) r flags) (pageFull (t .geometry) r (b .counts)) (outOfOrder (t .geometry) (t .words) r (b .counts)) good room order);
+    starts = λ f r c s h good room order.
         ap (λ (o : Outcome). o .target .luns) (left-at t (command 0x10) params b flags (filling f r c) s h)
-        ∙ ap (marked r (stillOpen t params b flags f r)) (neither (blockBad (t .geometry) r flags) (pageFull (t .geometry) r (b .counts)) good room);
+        ∙ ap (marked r (stillOpen t params b flags f r)) (none-of (blockBad (t .geometry) r flags) (pageFull (t .geometry) r (b .counts)) (outOfOrder (t .geometry) (t .words) r (b .counts)) good room order);
     stays = λ f r c s h bad.
         let p = left-at t (command 0x10) params b flags (filling f r c) s h in (
           ap (λ (o : Outcome). o .buffers) p ∙ ap (λ (x : Bool). either (work.Program r) (not x)) bad,

@@ -11,7 +11,7 @@ use Rattle.target.specs.declared.Target.{Target}
 use Rattle.target.specs.declared.Verdict.the-variants as verdicts
 use Rattle.rules.specs.Rules.{verdict, beforeReset, unknown, misplaced, fits, othersBusy, lineLow}
 use Rattle.rules.proofs.ByKind.{command-verdict}
-use Rattle.effects.specs.Effects.{workOf, targetAfter, lunsAfter, sequenceAfter, outputAfter, selectedAfter, clearAfter, highAfter}
+use Rattle.effects.specs.Effects.{workOf, targetAfter, lunsAfter, sequenceAfter, outputAfter, keptAfter, selectedAfter, clearAfter, highAfter}
 use Rattle.step.specs.Buffers.{registersAfter, arrayAfter, countsAfter}
 use Rattle.step.specs.Step.{Buffers, replyOf, worked, acceptedBy, accepted}
 use Rattle.thm_kept.proofs.Choice.{or-true}
@@ -23,5 +23,5 @@ unfolding orElse beforeReset unknown rowOf firstOf secondOf secondRow classOf of
 reset-verdict t = command-verdict t 0xff ∙ (rw (or-true (isOpen (t .decoder .sequence) && false)))
 
 pub reset : (t : Target) (params : List ℕ) (b : Buffers) (flags : List ℕ) → Reset t params b flags
-unfolding accepted acceptedBy replyOf worked workOf targetAfter lunsAfter sequenceAfter outputAfter selectedAfter clearAfter highAfter registersAfter arrayAfter countsAfter
+unfolding accepted acceptedBy replyOf worked workOf targetAfter lunsAfter sequenceAfter outputAfter keptAfter selectedAfter clearAfter highAfter registersAfter arrayAfter countsAfter
 reset t params b flags ok = accepts t (command 0xff) params b flags ok (reset-verdict t) ∙ (rw (or-true (t .seen)))

@@ -1,17 +1,17 @@
 -- "Work" and "Status", as specs/Steps.antt states them.
 -- Assumes nothing.
 use mathlib.Core.Path.{_≡_, refl, sym, ap, subst, _∙_}
-use mathlib.Core.Bool.{Bool, true, false, _||_, false≢true}
+use mathlib.Core.Bool.{Bool, true, false, _||_, not, false≢true}
 use mathlib.Core.List.{List, [], _∷_}
 use Prim.Native.Nat.{ℕ, zero, suc}
 use lib.ListN.{set}
 use lib.Dec.{eqb}
-use borrow.Author.Tests.{eqb-true}
+use borrow.Author.Tests.{eqb-true, not-true}
 use Rattle.target.specs.Pick.{pick, orElse}
 use Rattle.target.specs.Events.{isReset, badRecord}
 use Rattle.target.specs.Address.{rowFrom, lunOf}
 use Rattle.target.specs.Luns.{lunAt, lunClosed, works, failed}
-use Rattle.target.specs.Place.{hasOutput}
+use Rattle.target.specs.Place.{isBare, putOut, showsStatus, isRegisterOf, hasOutput}
 use Rattle.target.specs.Views.{completed, ending, endedWith}
 use Rattle.target.specs.Commands.{rowOf, firstOf, secondOf, secondRow, closesCopyback}
 use Rattle.target.specs.declared.Column.{Column}
@@ -34,17 +34,22 @@ use Rattle.target.specs.declared.views.Given.the-variants as given
 use Rattle.target.specs.declared.views.Ender.{Ender}
 use Rattle.target.specs.declared.Output.{Output}
 use Rattle.target.specs.declared.Output.the-variants as output
-use Rattle.target.specs.declared.Refusal.the-variants.{PastEnd}
+use Rattle.target.specs.declared.Refusal.the-variants.{BeforeReset, Misplaced, LunWorks, PastEnd}
+use Rattle.target.specs.declared.Reply.the-variants as reply
+use Rattle.target.specs.declared.Verdict.{Verdict}
 use Rattle.target.specs.declared.Verdict.the-variants as verdicts
 use Rattle.rules.specs.Rules.{verdict, beforeReset, misplaced, fits, lunWorks, pastEnd, outputWorks, outputEnded}
 use Rattle.rules.proofs.ByKind.{out-verdict}
-use Rattle.effects.specs.Effects.{addressedLuns, endedLuns, finished, workOf, targetAfter, lunsAfter, sequenceAfter, outputAfter, selectedAfter, clearAfter, highAfter}
+use Rattle.target.proofs.Both.{both}
+use Rattle.effects.specs.Effects.{addressedLuns, endedLuns, finished, advanced, workOf, targetAfter, lunsAfter, sequenceAfter, outputAfter, keptAfter, selectedAfter, clearAfter, highAfter}
+use Rattle.step.specs.Usable.{outputSound}
+use Rattle.step.proofs.Sound.{sound, passes}
 use Rattle.step.specs.Buffers.{registersAfter, arrayAfter, countsAfter, statusOf, outputByte}
 use Rattle.step.specs.Step.{Buffers, Outcome, replyOf, worked, acceptedBy, accepted, stepOf}
 use Rattle.thm_kept.proofs.Choice.{by-pick, then-not}
-use Rattle.thm_steps.specs.Steps.{address, dataOut, finish, lastRow, beginsWork, Work, Status, Live}
+use Rattle.thm_steps.specs.Steps.{address, dataOut, finish, lastRow, decoding, beginsWork, Work, Status, Live}
 use Rattle.thm_steps.proofs.Places.{by-ending, closes-80}
-use Rattle.thm_steps.proofs.Taken.{put, seen-out, accepts, left-by, left-at, left-first}
+use Rattle.thm_steps.proofs.Taken.{put, accepts, left-by, left-at, left-first}
 
 -- Work: a second command that is none of 30h, 35h, 10h and D0h leaves the LUN records.
 
@@ -69,7 +74,7 @@ starts-none : (v : ℕ) → (eqb v 0x30 || eqb v 0x35 || eqb v 0x10 || eqb v 0xd
 unfolding secondOf secondRow
 starts-none v h = by-tests (eqb v 0x30) (eqb v 0x35) (eqb v 0x10) (eqb v 0xd0) (eqb v 0xe0) (eqb v 0x85) h
 
-not-yes : (a : Bool) → (a ≡ true → ⊥) → a ≡ false
+pub not-yes : (a : Bool) → (a ≡ true → ⊥) → a ≡ false
 not-yes true h = absurd (h refl)
 not-yes false h = refl
 
@@ -145,29 +150,75 @@ finished-luns : (t : Target) (l : ℕ) (found : Findings) → lunsAfter (t .geom
 unfolding lunsAfter
 finished-luns t l found = refl
 
-none-70 : secondOf 0x70 ≡ second.Nothing
+pub none-70 : secondOf 0x70 ≡ second.Nothing
 unfolding secondOf secondRow
 none-70 = refl
 
 -- Status: a data-out cycle is accepted where there is more to give, and refused with 8 where there is not.
 
-pub more-out : (t : Target) (o : Output) → hasOutput o ≡ true → outputWorks (t .luns) o ≡ false → outputEnded (t .geometry) o ≡ false
-    → verdict (put t true (t .decoder .sequence) o) dataOut ≡ verdicts.Accepted
-unfolding orElse badRecord beforeReset misplaced fits lunWorks pastEnd
-more-out t o h k l = out-verdict (put t true (t .decoder .sequence) o) 0 ∙ (rw (h, k, l))
+pick-not : (x : Bool) (a b : Output) → pick (not x) a b ≡ pick x b a
+pick-not true a b = refl
+pick-not false a b = refl
 
-pub none-out : (t : Target) (o : Output) → hasOutput o ≡ true → outputWorks (t .luns) o ≡ false → outputEnded (t .geometry) o ≡ true
-    → verdict (put t true (t .decoder .sequence) o) dataOut ≡ verdicts.Refused PastEnd
+-- the verdict on a data-out cycle that puts this out
+abbrev pub onOut : Target → Bool → Output → Verdict
+onOut t seen o =
+    orElse (not seen) BeforeReset (orElse (not (hasOutput o)) Misplaced (orElse (outputWorks (t .luns) o) LunWorks (orElse (outputEnded (t .geometry) o) PastEnd verdicts.Accepted)))
+
+pub on-out : (t : Target) → verdict t dataOut ≡ onOut t (t .seen) (putOut (t .decoder))
 unfolding orElse badRecord beforeReset misplaced fits lunWorks pastEnd
-none-out t o h k l = out-verdict (put t true (t .decoder .sequence) o) 0 ∙ (rw (h, k, l))
+on-out t = out-verdict t 0
+
+pub puts-out : (t : Target) (o : Output) → t .seen ≡ true → putOut (t .decoder) ≡ o → verdict t dataOut ≡ onOut t true o
+puts-out t o seen h = on-out t ∙ ap (λ (x : Bool). onOut t x (putOut (t .decoder))) seen ∙ ap (onOut t true) h
+
+pub more-out : (t : Target) (o : Output) → hasOutput o ≡ true → outputWorks (t .luns) o ≡ false → outputEnded (t .geometry) o ≡ false → onOut t true o ≡ verdicts.Accepted
+unfolding orElse
+more-out t o h k l = rw (h, k, l)
+
+pub none-out : (t : Target) (o : Output) → hasOutput o ≡ true → outputWorks (t .luns) o ≡ false → outputEnded (t .geometry) o ≡ true → onOut t true o ≡ verdicts.Refused PastEnd
+unfolding orElse
+none-out t o h k l = rw (h, k, l)
+
+-- a status is never kept, so that a data-out cycle that gives one finds it open
+status-open : (t : Target) (l : ℕ) (x : Bool) → showsStatus (t .decoder .kept) ≡ false → isBare (t .decoder .sequence) ≡ x → pick x (t .decoder .kept) (t .decoder .output) ≡ output.Status l
+    → isBare (t .decoder .sequence) ≡ false
+status-open t l true none is h = absurd (false≢true (sym none ∙ ap showsStatus h))
+status-open t l false none is h = is
 
 module _ (t : Target) (params : List ℕ) (b : Buffers) (flags : List ℕ) where
-  pub given-out : (o : Output) → t .decoder .output ≡ o → Live t params b flags → hasOutput o ≡ true → outputWorks (t .luns) o ≡ false → outputEnded (t .geometry) o ≡ false
-      → stepOf t dataOut params b flags ≡ accepted (put t true (t .decoder .sequence) o) dataOut params b flags
-  given-out o s live h k l =
-      let is = seen-out t o (live .seen) s in
-      accepts t dataOut params b flags (live .passes) (ap (λ (x : Target). verdict x dataOut) is ∙ more-out t o h k l)
-      ∙ ap (λ (x : Target). accepted x dataOut params b flags) is
+  pub given-out : (o : Output) → putOut (t .decoder) ≡ o → Live t params b flags → hasOutput o ≡ true → outputWorks (t .luns) o ≡ false → outputEnded (t .geometry) o ≡ false
+      → stepOf t dataOut params b flags ≡ accepted t dataOut params b flags
+  given-out o s live h k l = accepts t dataOut params b flags (live .passes) (puts-out t o (live .seen) s ∙ more-out t o h k l)
+
+  -- the record after a data-out cycle that gives a status is the one before it
+  abbrev still : Bool → Bool → Output → Target
+  still seen x o = record {
+    powered = t .powered;
+    geometry = t .geometry;
+    words = t .words;
+    ids = t .ids;
+    high = t .high;
+    clear = t .clear;
+    seen = seen || false;
+    selected = t .selected;
+    luns = t .luns;
+    decoder = record { sequence = pick x Idle (t .decoder .sequence); output = o; kept = pick x output.Nothing (t .decoder .kept) };
+  }
+
+  out-left : accepted t dataOut params b flags .target ≡ still (t .seen) (isBare (t .decoder .sequence)) (advanced (putOut (t .decoder)))
+  unfolding accepted acceptedBy targetAfter lunsAfter sequenceAfter outputAfter keptAfter selectedAfter clearAfter highAfter
+  out-left = refl
+
+  status-stays : (l : ℕ) → putOut (t .decoder) ≡ output.Status l → Live t params b flags → accepted t dataOut params b flags .target ≡ t
+  status-stays l s live =
+      let held = sound t (passes t params (b .array) (b .registers) (b .counts) flags (live .passes) .record-sound) .kept in
+      let none = not-true (showsStatus (t .decoder .kept)) (both (outputSound (t .geometry) (t .decoder .kept)) (not (showsStatus (t .decoder .kept))) held .1) in
+      let plain = status-open t l (isBare (t .decoder .sequence)) none refl s in
+      let same = ap advanced s ∙ sym s ∙ ap (λ (x : Bool). pick x (t .decoder .kept) (t .decoder .output)) plain in
+      let seen : (t .seen || false) ≡ t .seen = ap (λ (x : Bool). x || false) (live .seen) ∙ sym (live .seen) in
+      out-left ∙ ap (λ (x : Bool). still (t .seen) x (advanced (putOut (t .decoder)))) plain ∙ ap (still (t .seen) false) same
+      ∙ ap (λ (x : Bool). put t x (t .decoder .sequence) (t .decoder .output)) seen
 
   pub working-luns : Work t params b flags
   unfolding accepted acceptedBy targetAfter
@@ -187,14 +238,17 @@ module _ (t : Target) (params : List ℕ) (b : Buffers) (flags : List ℕ) where
   }
 
   pub status : Status t params b flags
-  unfolding accepted acceptedBy replyOf worked workOf targetAfter lunsAfter sequenceAfter outputAfter selectedAfter clearAfter highAfter registersAfter arrayAfter countsAfter outputByte statusOf rowOf firstOf
+  unfolding accepted acceptedBy replyOf worked workOf targetAfter lunsAfter sequenceAfter outputAfter keptAfter registersAfter arrayAfter countsAfter outputByte statusOf rowOf firstOf
   status = record {
     of-selected = λ h. ap (λ (o : Outcome). o .target .decoder) (left-first t params b flags 0x70 refl none-70 h);
-    of-row = λ c low mid v s h. ap (λ (o : Outcome). o .target .decoder) (left-at t (address v) params b flags (lastRow first.StatusEnhanced c low mid) s h);
-    gives = λ l s live. ap (λ (o : Outcome). o .reply) (given-out (output.Status l) s live refl refl refl);
+    of-row = λ c low mid v s h.
+        let l = lunOf (t .geometry) (rowFrom low mid v) in
+        ap (λ (o : Outcome). o .target .decoder) (left-at t (address v) params b flags (lastRow first.StatusEnhanced c low mid) s h)
+        ∙ ap (decoding Idle (output.Status l)) (pick-not (isRegisterOf l (t .decoder .kept)) output.Nothing (t .decoder .kept));
+    gives = λ l s live.
+        ap (λ (o : Outcome). o .reply) (given-out (output.Status l) s live refl refl refl)
+        ∙ ap (λ (o : Output). reply.Byte (outputByte t params (b .registers) o)) s;
     stays = λ l s live.
-        let p = given-out (output.Status l) s live refl refl refl in (
-          ap (λ (o : Outcome). o .target) p ∙ sym (seen-out t (output.Status l) (live .seen) s),
-          ap (λ (o : Outcome). o .buffers) p,
-        );
+        let p = given-out (output.Status l) s live refl refl refl in
+        (ap (λ (o : Outcome). o .target) p ∙ status-stays l s live, ap (λ (o : Outcome). o .buffers) p);
   }

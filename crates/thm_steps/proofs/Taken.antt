@@ -36,7 +36,7 @@ use Rattle.thm_kept.proofs.Kept.{step-steady}
 use Rattle.thm_steps.specs.Steps.{command, Taken, RefusedWith, Live}
 use Rattle.thm_steps.proofs.Places.{by-ending}
 
--- the record with this mark of the first FFh, this place reached and this output
+-- the record with this mark of the first FFh, this place reached and this output; what is kept stays
 abbrev pub put : Target → Bool → Sequence → Output → Target
 put t seen s o = record {
   powered = t .powered;
@@ -48,20 +48,14 @@ put t seen s o = record {
   seen = seen;
   selected = t .selected;
   luns = t .luns;
-  decoder = record { sequence = s; output = o };
+  decoder = record { sequence = s; output = o; kept = t .decoder .kept };
 }
 
 pub at-place : (t : Target) (s : Sequence) → t .decoder .sequence ≡ s → t ≡ put t (t .seen) s (t .decoder .output)
 at-place t s h = ap (λ (x : Sequence). put t (t .seen) x (t .decoder .output)) h
 
-pub at-output : (t : Target) (o : Output) → t .decoder .output ≡ o → t ≡ put t (t .seen) (t .decoder .sequence) o
-at-output t o h = ap (λ (x : Output). put t (t .seen) (t .decoder .sequence) x) h
-
 pub seen-at : (t : Target) (s : Sequence) → t .seen ≡ true → t .decoder .sequence ≡ s → t ≡ put t true s (t .decoder .output)
 seen-at t s k h = at-place t s h ∙ ap (λ (x : Bool). put t x s (t .decoder .output)) k
-
-pub seen-out : (t : Target) (o : Output) → t .seen ≡ true → t .decoder .output ≡ o → t ≡ put t true (t .decoder .sequence) o
-seen-out t o k h = at-output t o h ∙ ap (λ (x : Bool). put t x (t .decoder .sequence) o) k
 
 -- an accepted event's reply is no refusal
 no-refusal : (x : Bool) (v : ℕ) (q : Refusal) → pick x (reply.Byte v) reply.Accepted ≡ reply.Refused q → ⊥
@@ -102,6 +96,20 @@ module _ (t : Target) (e : Event) (params : List ℕ) (b : Buffers) (flags : Lis
   unfolding byVerdict
   refuses r n same ok h = (r, (ap (λ (o : Outcome). o .reply) (decided (verdicts.Refused r) ok h), same))
 
+  -- a refusal is the verdict's where rule 13 lets pass, and else 13, which changes nothing
+  by-refusal : (v : Verdict) (q : Refusal) → byVerdict v t e params b flags .reply ≡ reply.Refused q → v ≡ verdicts.Refused q
+  unfolding byVerdict accepted acceptedBy replyOf
+  by-refusal verdicts.Accepted q h = absurd (no-refusal (eqb (e .kind) 3) _ q h)
+  by-refusal (verdicts.Refused r) q h = let is : reply.Refused r ≡ reply.Refused q = h in cc
+
+  pub refused-by : (q : Refusal) → stepOf t e params b flags .reply ≡ reply.Refused q → letsPass t params b flags ≡ true → verdict t e ≡ verdicts.Refused q
+  unfolding steady
+  refused-by q h ok = by-refusal (verdict t e) q (sym (ap (λ (o : Outcome). o .reply) (step-steady t e params b flags ok)) ∙ h)
+
+  pub not-usable : letsPass t params b flags ≡ false → stepOf t e params b flags ≡ record { reply = reply.Refused NotUsable; target = t; buffers = b }
+  unfolding stepOf
+  not-usable h = ap (λ (x : Bool). pick x (steady t e params b flags) (record { reply = reply.Refused NotUsable; target = t; buffers = b })) h
+
   -- and a refusal leaves the buffers and the LUN records
   abbrev Leaves : Outcome → Type 0
   Leaves o = (o .buffers ≡ b) × (o .target .luns ≡ t .luns)
@@ -125,12 +133,9 @@ module _ (t : Target) (e : Event) (params : List ℕ) (b : Buffers) (flags : Lis
   pub left-by : Taken t params b flags e → stepOf t e params b flags ≡ accepted t e params b flags
   left-by h = accepts (taken h .0) (taken h .1)
 
-  -- the same with the place or the output put in
+  -- the same with the place put in
   pub left-at : (s : Sequence) → t .decoder .sequence ≡ s → Taken t params b flags e → stepOf t e params b flags ≡ accepted (put t (t .seen) s (t .decoder .output)) e params b flags
   left-at s k h = left-by h ∙ ap (λ (x : Target). accepted x e params b flags) (at-place t s k)
-
-  pub left-out : (o : Output) → t .decoder .output ≡ o → Taken t params b flags e → stepOf t e params b flags ≡ accepted (put t (t .seen) (t .decoder .sequence) o) e params b flags
-  left-out o k h = left-by h ∙ ap (λ (x : Target). accepted x e params b flags) (at-output t o k)
 
 -- a command that is no second command is accepted with no sequence open alone
 not-ended : (k : SecondFound) (f : First) (c : Column) (r : Row) → k ≡ second.Nothing → isEnded (endedWith k f c r) ≡ false

@@ -3,19 +3,19 @@
 use mathlib.Core.Path.{_≡_}
 use mathlib.Core.Bool.{Bool, true, false, _&&_, _||_, not}
 use mathlib.Core.List.{List}
-use Prim.Native.Nat.{ℕ, _+_, _*_, _%_, _<_}
+use Prim.Native.Nat.{ℕ, _+_, _*_, _%_, _≤_, _<_}
 use lib.ListN.{length, getD, set, replicate}
-use lib.Dec.{eqb}
+use lib.Dec.{eqb, ltb}
 use lib.Bits.{bitAnd}
 use Rattle.slices.specs.Cells.{part, splice, andBytes}
 use Rattle.target.specs.Pick.{pick}
 use Rattle.target.specs.Numbers.{numberOf}
-use Rattle.target.specs.Events.{isReset}
+use Rattle.target.specs.Events.{isBus, isReset}
 use Rattle.target.specs.Words.{hasFeature, hasOption}
 use Rattle.target.specs.Sizes.{pageSize}
-use Rattle.target.specs.Place.{isOpen}
-use Rattle.target.specs.Commands.{byteOf, cyclesOf, needsCopyback, secondOf, isSecondFound}
-use Rattle.target.specs.Address.{columnFrom, rowFrom, lunOf, lunExists, rowExists}
+use Rattle.target.specs.Place.{isOpen, putOut, isPage, showsStatus, isRegisterOf, hasOutput}
+use Rattle.target.specs.Commands.{byteOf, cyclesOf, needsCopyback, secondOf, isSecondFound, classOf, isKnown, offered}
+use Rattle.target.specs.Address.{columnFrom, rowFrom, pageOf, lunOf, lunExists, rowExists}
 use Rattle.target.specs.Luns.{lunAt, lunClosed, works, failed, copybackAt, allReady}
 use Rattle.target.specs.declared.Column.{Column}
 use Rattle.target.specs.declared.Row.{Row}
@@ -23,6 +23,7 @@ use Rattle.target.specs.declared.Lun.{Lun}
 use Rattle.target.specs.declared.Event.{Event}
 use Rattle.target.specs.declared.Wait.{Wait}
 use Rattle.target.specs.declared.Fill.{Fill}
+use Rattle.target.specs.declared.Decoder.{Decoder}
 use Rattle.target.specs.declared.Target.{Target}
 use Rattle.target.specs.declared.First.{First}
 use Rattle.target.specs.declared.First.the-variants as first
@@ -33,7 +34,9 @@ use Rattle.target.specs.declared.Output.the-variants as output
 use Rattle.target.specs.declared.Refusal.{Refusal}
 use Rattle.target.specs.declared.Reply.{Reply}
 use Rattle.target.specs.declared.Reply.the-variants as reply
-use Rattle.step.specs.Buffers.{blockIndex, pageIndex, blockBad, pageFull}
+use Rattle.rules.specs.Rules.{outputWorks, outputEnded}
+use Rattle.effects.specs.Effects.{advanced, remembered}
+use Rattle.step.specs.Buffers.{blockIndex, pageIndex, blockBad, pageFull, outOfOrder, outputByte}
 use Rattle.step.specs.Step.{Buffers, Outcome, stepOf}
 use Rattle.thm_kept.specs.Kept.{letsPass}
 
@@ -53,13 +56,28 @@ dataOut = record { kind = 3; value = 0 }
 abbrev pub finish : ℕ → Event
 finish l = record { kind = 4; value = l }
 
--- the place reached: all addresses of a first command have come
+abbrev pub protect : ℕ → Event
+protect level = record { kind = 5; value = level }
+
+-- the place reached: `got` of a first command's two column cycles have come
+abbrev pub column : First → ℕ → ℕ → Sequence
+column f got low = Columns (record { first = f; got = got; low = low })
+
+-- a bare 00h, with no address yet
+abbrev pub bare : ℕ → Sequence
+bare low = column first.Read 0 low
+
+-- all addresses of a first command have come
 abbrev pub due : First → Column → Row → Sequence
 due f c r = Due (record { first = f; column = c; row = r })
 
--- two of its three row cycles have come
+-- `got` of its three row cycles have come
+abbrev pub row : First → Column → ℕ → ℕ → ℕ → Sequence
+row f c got low mid = Rows (record { first = f; column = c; got = got; low = low; mid = mid })
+
+-- all but the last
 abbrev pub lastRow : First → Column → ℕ → ℕ → Sequence
-lastRow f c low mid = Rows (record { first = f; column = c; got = 2; low = low; mid = mid })
+lastRow f c low mid = row f c 2 low mid
 
 -- a program that this command opened takes data, next at this place
 abbrev pub filling : First → Row → Column → Sequence
@@ -72,6 +90,25 @@ moving f r got low = Moving (record { first = f; row = r; got = got; low = low }
 -- EFh with `got` of its four bytes, the first of which was `value`
 abbrev pub setting : ℕ → ℕ → Sequence
 setting got value = Setting (record { got = got; value = value })
+
+-- the decoder: the place reached, the output that is open, and what is kept of one behind a status
+abbrev pub decoding : Sequence → Output → Output → Decoder
+decoding s o kept = record { sequence = s; output = o; kept = kept }
+
+-- the record with no sequence open, this output open and none kept
+abbrev pub putting : Target → Output → Target
+putting t o = record {
+  powered = t .powered;
+  geometry = t .geometry;
+  words = t .words;
+  ids = t .ids;
+  high = t .high;
+  clear = t .clear;
+  seen = t .seen;
+  selected = t .selected;
+  luns = t .luns;
+  decoder = decoding Idle o output.Nothing;
+}
 
 -- a LUN's record: it works, it is ready; with this FAIL, and with a copyback open or not
 abbrev pub working : Bool → Bool → Lun
@@ -90,6 +127,10 @@ module _ (t : Target) (params : List ℕ) (b : Buffers) (flags : List ℕ) where
   abbrev pub after : Event → Outcome
   after e = stepOf t e params b flags
 
+  -- and a further event
+  abbrev pub next : Outcome → Event → Outcome
+  next o e = stepOf (o .target) e params (o .buffers) flags
+
   -- the event is accepted: it is not refused, with 13 or otherwise
   abbrev pub Taken : Event → Type 0
   Taken e = (q : Refusal) → after e .reply ≡ reply.Refused q → ⊥
@@ -103,12 +144,19 @@ module _ (t : Target) (params : List ℕ) (b : Buffers) (flags : List ℕ) where
     pub passes : letsPass t params b flags ≡ true
     pub seen : t .seen ≡ true
 
-  -- the place reached, and the output
+  -- the place reached; the output that is open; and what is kept of one behind a status
   abbrev pub At : Sequence → Type 0
   At s = t .decoder .sequence ≡ s
 
+  abbrev pub Open : Output → Type 0
+  Open o = t .decoder .output ≡ o
+
+  abbrev pub kept : Output
+  kept = t .decoder .kept
+
+  -- a data-out cycle puts this out: the output that is open, or after a bare 00h the one that is kept
   abbrev pub Out : Output → Type 0
-  Out o = t .decoder .output ≡ o
+  Out o = putOut (t .decoder) ≡ o
 
   -- P, and where a LUN's register, a page and a block begin
   abbrev pub size : ℕ
@@ -155,7 +203,7 @@ module _ (t : Target) (params : List ℕ) (b : Buffers) (flags : List ℕ) where
         → after (command 0x30) .target .luns ≡ set (t .luns) (lun r) (working false false)
     -- "output will begin at the column"
     pub puts-out : (c : Column) (r : Row) → At (due first.Read c r) → Taken (command 0x30)
-        → after (command 0x30) .target .decoder ≡ record { sequence = Idle; output = output.Register (lun r) c }
+        → after (command 0x30) .target .decoder ≡ decoding Idle (output.Register (lun r) c) kept
     -- a byte that is put out is the register's, and the next one is a place further
     pub byte : (l : ℕ) (c : Column) → Out (output.Register l c) → Taken dataOut
         → (after dataOut .reply ≡ reply.Byte (getD (b .registers) (registerAt l + c .0) 0))
@@ -166,16 +214,16 @@ module _ (t : Target) (params : List ℕ) (b : Buffers) (flags : List ℕ) where
         → RefusedWith 5 (address v)
     -- "and E0h then starts output there"
     pub there : (c : Column) (r : Row) → At (due first.ChangeColumnEnhanced c r) → Taken (command 0xe0)
-        → (after (command 0xe0) .target .decoder ≡ record { sequence = Idle; output = output.Register (lun r) c })
+        → (after (command 0xe0) .target .decoder ≡ decoding Idle (output.Register (lun r) c) kept)
         × (after (command 0xe0) .target .luns ≡ t .luns) × LeavesBuffers (command 0xe0)
     -- "05h does it for the selected LUN"
     pub selected : (c : Column) (r : Row) → At (due first.ChangeColumn c r) → Taken (command 0xe0)
-        → (after (command 0xe0) .target .decoder ≡ record { sequence = Idle; output = output.Register (t .selected) c })
+        → (after (command 0xe0) .target .decoder ≡ decoding Idle (output.Register (t .selected) c) kept)
         × (after (command 0xe0) .target .luns ≡ t .luns) × LeavesBuffers (command 0xe0)
     -- "the busy check at its second column cycle": refused with 5 there, and not before
-    pub busy : (low v : ℕ) → At (Columns (record { first = first.ChangeColumn; got = 1; low = low })) → Live
+    pub busy : (low v : ℕ) → At (column first.ChangeColumn 1 low) → Live
         → columnFrom low v .0 < size → works (t .luns) (t .selected) ≡ true → RefusedWith 5 (address v)
-    pub not-before : (v : ℕ) → At (Columns (record { first = first.ChangeColumn; got = 0; low = 0 })) → Live
+    pub not-before : (v : ℕ) → At (column first.ChangeColumn 0 0) → Live
         → after (address v) .reply ≡ reply.Accepted
     -- "Selected is the LUN of the last accepted row"
     pub selects : (f : First) (c : Column) (low mid v : ℕ) → At (lastRow f c low mid) → Taken (address v)
@@ -221,6 +269,7 @@ module _ (t : Target) (params : List ℕ) (b : Buffers) (flags : List ℕ) where
     -- "10h: each array byte becomes old AND register, the count rises by one"
     pub programs : (f : First) (r : Row) (c : Column) → At (filling f r c) → Taken (command 0x10)
         → blockBad (t .geometry) r flags ≡ false → pageFull (t .geometry) r (b .counts) ≡ false
+        → outOfOrder (t .geometry) (t .words) r (b .counts) ≡ false
         → after (command 0x10) .buffers ≡ record {
           array = splice (b .array) (pageAt r) size (andBytes (part (b .array) (pageAt r) size) (part (b .registers) (registerAt (lun r)) size));
           registers = b .registers;
@@ -228,22 +277,42 @@ module _ (t : Target) (params : List ℕ) (b : Buffers) (flags : List ℕ) where
         }
     pub each-byte : (f : First) (r : Row) (c : Column) → At (filling f r c) → Taken (command 0x10)
         → blockBad (t .geometry) r flags ≡ false → pageFull (t .geometry) r (b .counts) ≡ false
+        → outOfOrder (t .geometry) (t .words) r (b .counts) ≡ false
         → (i : ℕ) → i < size
         → getD (after (command 0x10) .buffers .array) (pageAt r + i) 0
         ≡ bitAnd (getD (b .array) (pageAt r + i) 0) (getD (b .registers) (registerAt (lun r) + i) 0)
     -- "work starts"
     pub starts : (f : First) (r : Row) (c : Column) → At (filling f r c) → Taken (command 0x10)
         → blockBad (t .geometry) r flags ≡ false → pageFull (t .geometry) r (b .counts) ≡ false
+        → outOfOrder (t .geometry) (t .words) r (b .counts) ≡ false
         → after (command 0x10) .target .luns ≡ set (t .luns) (lun r) (working false (stillOpen f r))
     -- "If the block's flag is not 0 or the count is at or above programs a page, array and count stay, FAIL is 1, and
-    -- work still starts"
+    -- work still starts"; out of order too
     pub stays : (f : First) (r : Row) (c : Column) → At (filling f r c) → Taken (command 0x10)
-        → (blockBad (t .geometry) r flags || pageFull (t .geometry) r (b .counts)) ≡ true
+        → (blockBad (t .geometry) r flags || pageFull (t .geometry) r (b .counts) || outOfOrder (t .geometry) (t .words) r (b .counts)) ≡ true
         → LeavesBuffers (command 0x10)
         × (after (command 0x10) .target .luns ≡ set (t .luns) (lun r) (working true (stillOpen f r)))
     -- "No data at all before 10h is allowed": wherever data may come 10h is accepted, with the line high
     pub no-data : (f : First) (r : Row) (c : Column) → At (filling f r c) → Live → t .high ≡ true
         → after (command 0x10) .reply ≡ reply.Accepted
+
+  -- **Page order** (document 02, A4).
+  pub record PageOrder : Type 0 where
+    -- "If feature bit 2 is 0, a 10h for a page lower than some page of that block with count above 0 does not proceed and gives
+    -- FAIL"
+    pub stays : (f : First) (r : Row) (c : Column) → At (filling f r c) → Taken (command 0x10)
+        → hasFeature (t .words) 2 ≡ false
+        → (p : ℕ) → pageOf (t .geometry) r < p → p < t .geometry .pages
+        → 0 < getD (b .counts) (blockIndex (t .geometry) r * t .geometry .pages + p) 0
+        → LeavesBuffers (command 0x10)
+        × (after (command 0x10) .target .luns ≡ set (t .luns) (lun r) (working true (stillOpen f r)))
+    -- no other page's count stands in its way: "the same page again is allowed up to its count"
+    pub in-order : (r : Row)
+        → ((p : ℕ) → pageOf (t .geometry) r < p → p < t .geometry .pages
+        → getD (b .counts) (blockIndex (t .geometry) r * t .geometry .pages + p) 0 ≡ 0)
+        → outOfOrder (t .geometry) (t .words) r (b .counts) ≡ false
+    -- and with feature bit 2 set none does
+    pub any-order : (r : Row) → hasFeature (t .words) 2 ≡ true → outOfOrder (t .geometry) (t .words) r (b .counts) ≡ false
 
   -- **Erase.**
   pub record Erase : Type 0 where
@@ -275,16 +344,14 @@ module _ (t : Target) (params : List ℕ) (b : Buffers) (flags : List ℕ) where
         → LeavesRegisters (command 0x35)
         (splice (b .registers) (registerAt (lun r)) size (part (b .array) (pageAt r) size))
     pub puts-out : (c : Column) (r : Row) → At (due first.Read c r) → Taken (command 0x35)
-        → after (command 0x35) .target .decoder ≡ record { sequence = Idle; output = output.Register (lun r) c }
+        → after (command 0x35) .target .decoder ≡ decoding Idle (output.Register (lun r) c) kept
     -- "and opens a copyback on that LUN"
     pub opens : (c : Column) (r : Row) → At (due first.Read c r) → Taken (command 0x35)
         → after (command 0x35) .target .luns ≡ set (t .luns) (lun r) (working false true)
     -- "85h as a first command (no sequence open)", which clears nothing, whatever program-clear
     pub begins : At Idle → Taken (command 0x85)
-        → (after (command 0x85) .target .decoder ≡ record {
-          sequence = Columns (record { first = first.CopybackProgram; got = 0; low = 0 });
-          output = output.Nothing;
-        })
+        → (after (command 0x85) .target .decoder
+        ≡ decoding (column first.CopybackProgram 0 0) output.Nothing output.Nothing)
         × LeavesBuffers (command 0x85)
     -- "programs the register without clearing it": its row clears nothing and leaves the copyback open; data may come
     pub takes-data : (c : Column) (low mid v : ℕ) → At (lastRow first.CopybackProgram c low mid) → Taken (address v)
@@ -343,9 +410,11 @@ module _ (t : Target) (params : List ℕ) (b : Buffers) (flags : List ℕ) where
   pub record Status : Type 0 where
     -- "70h and 78h give it": of the selected LUN, and of the row's
     pub of-selected : Taken (command 0x70)
-        → after (command 0x70) .target .decoder ≡ record { sequence = Idle; output = output.Status (t .selected) }
+        → after (command 0x70) .target .decoder ≡ decoding Idle (output.Status (t .selected)) (remembered (t .decoder))
     pub of-row : (c : Column) (low mid v : ℕ) → At (lastRow first.StatusEnhanced c low mid) → Taken (address v)
-        → after (address v) .target .decoder ≡ record { sequence = Idle; output = output.Status (lun (rowFrom low mid v)) }
+        → after (address v) .target .decoder
+        ≡ decoding Idle (output.Status (lun (rowFrom low mid v)))
+        (pick (isRegisterOf (lun (rowFrom low mid v)) kept) kept output.Nothing)
     -- "128 if the line is high, plus 96 if ready, plus FAIL if ready"; "always the present value"; never refused
     pub gives : (l : ℕ) → Out (output.Status l) → Live
         → after dataOut .reply
@@ -355,7 +424,7 @@ module _ (t : Target) (params : List ℕ) (b : Buffers) (flags : List ℕ) where
 
   -- the output of an address or data-out cycle that ends a sequence at once: no LUN works for it, no lent byte changes
   pub record Shows (e : Event) (o : Output) : Type 0 where
-    pub decoder : after e .target .decoder ≡ record { sequence = Idle; output = o }
+    pub decoder : after e .target .decoder ≡ decoding Idle o kept
     pub luns : after e .target .luns ≡ t .luns
     pub buffers : LeavesBuffers e
 
@@ -417,6 +486,110 @@ module _ (t : Target) (params : List ℕ) (b : Buffers) (flags : List ℕ) where
     pub at-once : (v got value : ℕ) → At (setting got value) → Taken (dataIn v)
         → (after (dataIn v) .target .luns ≡ t .luns) × LeavesBuffers (dataIn v)
 
+  -- **Polling** (document 02, A2). Status says that 70h and 78h give the status, and that a data-out cycle then changes
+  -- nothing.
+
+  -- the parameter page is open, or kept behind a status
+  abbrev pub pageOpen : Bool
+  pageOpen = isPage (t .decoder .output) || isPage kept
+
+  pub record Polling : Type 0 where
+    -- "70h keeps that memory": the output that was open, whatever it is but a status
+    pub keeps : showsStatus (t .decoder .output) ≡ false → Taken (command 0x70)
+        → after (command 0x70) .target .decoder .kept ≡ t .decoder .output
+    -- and of a second status what the first one kept
+    pub hands-on : (l : ℕ) → Open (output.Status l) → Taken (command 0x70)
+        → after (command 0x70) .target .decoder .kept ≡ kept
+    -- 78h holds it in the same way until its row has come
+    pub holds : Taken (command 0x78)
+        → after (command 0x78) .target .decoder
+        ≡ decoding (row first.StatusEnhanced (record { 0 = 0 }) 0 0 0) output.Nothing (remembered (t .decoder))
+    pub still-holds : (f : First) (c : Column) (got low mid v : ℕ) → eqb got 2 ≡ false → At (row f c got low mid)
+        → Taken (address v)
+        → after (address v) .target .decoder .kept ≡ kept
+    -- "78h keeps it only if the row names the register's LUN"
+    pub row-keeps : (c at : Column) (low mid v : ℕ) → At (lastRow first.StatusEnhanced c low mid) → Taken (address v)
+        → kept ≡ output.Register (lun (rowFrom low mid v)) at
+        → after (address v) .target .decoder .kept ≡ kept
+    pub row-loses : (c : Column) (low mid v : ℕ) → At (lastRow first.StatusEnhanced c low mid) → Taken (address v)
+        → ((at : Column) → kept ≡ output.Register (lun (rowFrom low mid v)) at → ⊥)
+        → after (address v) .target .decoder .kept ≡ output.Nothing
+    -- "after status, 00h with no address" still has it
+    pub asks : (l : ℕ) → Open (output.Status l) → Taken (command 0x00)
+        → after (command 0x00) .target .decoder ≡ decoding (bare 0) output.Nothing kept
+    -- "and then data out goes on from the output that was open before": answer, record and lent bytes are those of that
+    -- output, refusals too
+    pub goes-on : (low : ℕ) → At (bare low) → letsPass t params b flags ≡ true
+        → after dataOut ≡ stepOf (putting t kept) dataOut params b flags
+    -- "at its next byte", and then it is plain output, at the place after it
+    pub next-byte : (low : ℕ) → At (bare low) → Taken dataOut
+        → (after dataOut .reply ≡ reply.Byte (outputByte t params (b .registers) kept))
+        × (after dataOut .target .decoder ≡ decoding Idle (advanced kept) output.Nothing) × LeavesBuffers dataOut
+    -- it is given where the output has begun and has not ended, and where a register's LUN is ready
+    pub gives : (low : ℕ) → At (bare low) → Live → hasOutput kept ≡ true → outputWorks (t .luns) kept ≡ false
+        → outputEnded (t .geometry) kept ≡ false
+        → after dataOut .reply ≡ reply.Byte (outputByte t params (b .registers) kept)
+    pub too-early : (low l : ℕ) (at : Column) → At (bare low) → Live → kept ≡ output.Register l at
+        → works (t .luns) l ≡ true
+        → RefusedWith 5 dataOut
+    pub all-given : (low : ℕ) → At (bare low) → Live → outputWorks (t .luns) kept ≡ false
+        → outputEnded (t .geometry) kept ≡ true
+        → RefusedWith 8 dataOut
+    -- the whole of it: output is open, then come 70h and a bare 00h, and data out is answered, and leaves all, as if
+    -- neither had come
+    pub polled : showsStatus (t .decoder .output) ≡ false → Taken (command 0x70)
+        → next (next (after (command 0x70)) (command 0x00)) dataOut
+        ≡ stepOf (putting t (t .decoder .output)) dataOut params b flags
+    -- 00h straight after output, with no status between, ends it
+    pub no-status : showsStatus (t .decoder .output) ≡ false → Taken (command 0x00)
+        → after (command 0x00) .target .decoder ≡ decoding (bare 0) output.Nothing output.Nothing
+    -- "any other first command .. loses it"
+    pub other-loses : (v : ℕ) → (eqb v 0x70 || eqb v 0x78 || eqb v 0x00) ≡ false → At Idle → Taken (command v)
+        → after (command v) .target .decoder .kept ≡ output.Nothing
+    -- "or a refused bus cycle (12 and 13 apart) loses it, since the memory counts as output"
+    pub refused-loses : (e : Event) (q : Refusal) → after e .reply ≡ reply.Refused q → isBus e ≡ true
+        → eqb (numberOf q) 12 ≡ false → eqb (numberOf q) 13 ≡ false
+        → after e .target .decoder ≡ decoding Idle output.Nothing output.Nothing
+    -- 12, 13 and the refusal of a bench event leave the whole record
+    pub refused-keeps : (e : Event) (q : Refusal) → after e .reply ≡ reply.Refused q
+        → (not (isBus e) || eqb (numberOf q) 12 || eqb (numberOf q) 13) ≡ true
+        → after e .target ≡ t
+    -- and an accepted bench event the decoder: a LUN may finish while its status is asked for
+    pub bench-keeps : (e : Event) → isBus e ≡ false → Taken e → after e .target .decoder ≡ t .decoder
+    -- "and then it is 3"
+    pub none-kept : (low : ℕ) → At (bare low) → Live → kept ≡ output.Nothing → RefusedWith 3 dataOut
+    -- "An address after 00h makes it a plain read"
+    pub plain-read : (low v : ℕ) → At (bare low) → Taken (address v)
+        → after (address v) .target .decoder ≡ decoding (column first.Read 1 v) (t .decoder .output) output.Nothing
+    pub plain-taken : (low v : ℕ) → At (bare low) → Live → after (address v) .reply ≡ reply.Accepted
+    -- until then a bare 00h is an open sequence: the line may not change, and no command fits but FFh, 05h neither
+    pub line-held : (low level : ℕ) → ltb 1 level ≡ false → At (bare low) → Live → RefusedWith 11 (protect level)
+    pub no-command : (low v : ℕ) → eqb v 0xff ≡ false → (isKnown (classOf v) && offered (t .words) true v) ≡ true
+        → At (bare low) → Live
+        → RefusedWith 3 (command v)
+    -- "With the parameter page open, or kept behind 70h, 05h moves within its 768 bytes instead"
+    pub in-page : pageOpen ≡ true → Taken (command 0x05)
+        → after (command 0x05) .target .decoder
+        ≡ decoding (column first.ChangeColumnInPage 0 0) output.Nothing output.Nothing
+    pub in-register : pageOpen ≡ false → Taken (command 0x05)
+        → after (command 0x05) .target .decoder ≡ decoding (column first.ChangeColumn 0 0) output.Nothing output.Nothing
+    pub page-low : (low v : ℕ) → At (column first.ChangeColumnInPage 0 low) → Live
+        → (after (address v) .reply ≡ reply.Accepted)
+        × (after (address v) .target .decoder
+        ≡ decoding (column first.ChangeColumnInPage 1 v) (t .decoder .output) kept)
+    -- "columns below 768", above P too, and while the selected LUN works
+    pub page-high : (low v : ℕ) → At (column first.ChangeColumnInPage 1 low) → Live → columnFrom low v .0 < 768
+        → (after (address v) .reply ≡ reply.Accepted)
+        × (after (address v) .target .decoder
+        ≡ decoding (due first.ChangeColumnInPage (columnFrom low v) (record { 0 = 0 })) (t .decoder .output) kept)
+    pub page-beyond : (low v : ℕ) → At (column first.ChangeColumnInPage 1 low) → Live → 768 ≤ columnFrom low v .0
+        → RefusedWith 4 (address v)
+    -- and E0h puts the page out from there
+    pub page-out : (c : Column) (r : Row) → At (due first.ChangeColumnInPage c r) → Live
+        → (after (command 0xe0) .reply ≡ reply.Accepted)
+        × (after (command 0xe0) .target .decoder ≡ decoding Idle (output.Parameters (c .0)) kept)
+        × (after (command 0xe0) .target .luns ≡ t .luns) × LeavesBuffers (command 0xe0)
+
   -- **Reset.** "FFh: sequence and output dropped, registers FFh, program-clear off, every LUN ready, FAIL 0, array
   -- and counts as they are": accepted wherever rule 13 lets pass, and nothing else changes
   abbrev pub Reset : Type 0
@@ -434,7 +607,7 @@ module _ (t : Target) (params : List ℕ) (b : Buffers) (flags : List ℕ) where
           seen = true;
           selected = 0;
           luns = allReady;
-          decoder = record { sequence = Idle; output = output.Nothing };
+          decoder = decoding Idle output.Nothing output.Nothing;
         };
         buffers = record { array = b .array; registers = replicate (length (b .registers)) 0xff; counts = b .counts };
       }

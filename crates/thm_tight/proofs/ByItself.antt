@@ -10,6 +10,7 @@ use Rattle.target.specs.Pick.{pick}
 use Rattle.target.specs.Address.{rowExists}
 use Rattle.target.specs.Commands.{takesColumn, takesRow, waitsSecond, takesProgramData}
 use Rattle.target.specs.Luns.{works, failed, copybackAt}
+use Rattle.target.specs.Place.{showsStatus}
 use Rattle.target.specs.Sizes.{pageSize, inLimits}
 use Rattle.target.specs.declared.Column.{Column}
 use Rattle.target.specs.declared.Row.{Row}
@@ -31,14 +32,14 @@ use Rattle.target.proofs.Both.{both, both3}
 use Rattle.power.specs.Power.{poweredOf}
 use Rattle.rules.specs.Rules.{verdict}
 use Rattle.effects.specs.Effects.{targetAfter, targetRefused}
-use Rattle.step.specs.Usable.{columnHeld, rowHeld, wordsSound, sequenceSound, outputSound, markSound, usable}
+use Rattle.step.specs.Usable.{columnHeld, rowHeld, wordsSound, sequenceSound, outputSound, keptSound, markSound, usable}
 use Rattle.step.specs.Step.{State, Buffers, acceptedBy, accepted, byVerdict, steady, stepOf}
 use Rattle.step.proofs.Sound.{Sound, sound, passes}
 use Rattle.thm_kept.proofs.Choice.{and-true}
 use Rattle.thm_kept.proofs.Kept.{all-sound}
 use Rattle.thm_demands.specs.Runs.{stepAt, left, after, poweredUp}
 use Rattle.thm_demands.proofs.Promised.{powered-fit, run-fit}
-use Rattle.thm_tight.specs.Tight.{Reached, Stands, Shows, SequenceGiven, OutputGiven, ByItself}
+use Rattle.thm_tight.specs.Tight.{Reached, Stands, Shows, Keeps, SequenceGiven, EachGiven, OutputGiven, KeptGiven, ByItself}
 use Rattle.thm_tight.proofs.Marks.{one-mark}
 
 -- No event changes the geometry.
@@ -87,6 +88,9 @@ sequence-held {g} {s} w = ap (λ (x : Geometry). sequenceSound x s) (sym (run-si
 
 output-held : {g : Geometry} {o : Output} → Shows g o → outputSound g o ≡ true
 output-held {g} {o} w = ap (λ (x : Geometry). outputSound x o) (sym (run-sized w)) ∙ ap (outputSound (run w .target .geometry)) (sym (w .holds)) ∙ run-sound w .output
+
+kept-held : {g : Geometry} {o : Output} → Keeps g o → keptSound g o ≡ true
+kept-held {g} {o} w = ap (λ (x : Geometry). keptSound x o) (sym (run-sized w)) ∙ ap (keptSound (run w .target .geometry)) (sym (w .holds)) ∙ run-sound w .kept
 
 -- Tests that two runs pass, each for one number.
 
@@ -155,15 +159,35 @@ sequence-sound g (Setting k) w =
     mixed (λ (x : ℕ). ltb x 4) (λ (x : ℕ). eqb x 0 || eqb x 0x40) (i .got) (i .value) (j .got) (j .value) (w .0 .same) (w .1 .same)
     (sequence-held (w .0 .stands)) (sequence-held (w .1 .stands))
 
+-- where a run can leave only outputs that pass, one whose numbers are given passes
+each-sound : (g : Geometry) (Leaving : Output → Type 0) → ((o : Output) → Leaving o → outputSound g o ≡ true) → (o : Output) → EachGiven Leaving o → outputSound g o ≡ true
+each-sound g Leaving held output.Nothing w = refl
+each-sound g Leaving held (output.Register l c) w =
+    mix (ltb l (g .luns)) (leb (w .0 .0 .0) (pageSize g)) (ltb (w .1 .0) (g .luns)) (leb (c .0) (pageSize g)) (held _ (w .0 .1)) (held _ (w .1 .1))
+each-sound g Leaving held (output.Parameters at) w = held _ w
+each-sound g Leaving held (output.Status l) w = held _ w
+each-sound g Leaving held (output.Ids at) w = held _ w
+each-sound g Leaving held (output.Signature at) w = held _ w
+each-sound g Leaving held (output.Feature at) w = held _ w
+
 output-sound : (g : Geometry) (o : Output) → OutputGiven g o → outputSound g o ≡ true
-output-sound g output.Nothing w = refl
-output-sound g (output.Register l c) w =
-    mix (ltb l (g .luns)) (leb (w .0 .0 .0) (pageSize g)) (ltb (w .1 .0) (g .luns)) (leb (c .0) (pageSize g)) (output-held (w .0 .1)) (output-held (w .1 .1))
-output-sound g (output.Parameters at) w = output-held w
-output-sound g (output.Status l) w = output-held w
-output-sound g (output.Ids at) w = output-held w
-output-sound g (output.Signature at) w = output-held w
-output-sound g (output.Feature at) w = output-held w
+output-sound g o w = each-sound g (Shows g) (λ x run. output-held run) o w
+
+-- no run keeps a status
+no-status : (g : Geometry) (o : Output) → KeptGiven g o → not (showsStatus o) ≡ true
+no-status g output.Nothing w = refl
+no-status g (output.Register l c) w = refl
+no-status g (output.Parameters at) w = refl
+no-status g (output.Status l) w = both (outputSound g (output.Status l)) false (kept-held w) .1
+no-status g (output.Ids at) w = refl
+no-status g (output.Signature at) w = refl
+no-status g (output.Feature at) w = refl
+
+kept-sound : (g : Geometry) (o : Output) → KeptGiven g o → keptSound g o ≡ true
+kept-sound g o w =
+    and-true (outputSound g o) (not (showsStatus o))
+    (each-sound g (Keeps g) (λ x run. both (outputSound g x) (not (showsStatus x)) (kept-held run) .0) o w)
+    (no-status g o w)
 
 mark-sound : (g : Geometry) (luns : List Lun) (l : ℕ) → l < 4 → Reached g (λ u. works (u .luns) l ≡ works luns l) → Reached g (λ u. failed (u .luns) l ≡ failed luns l)
     → Reached g (λ u. copybackAt (u .luns) l ≡ copybackAt luns l) → markSound g luns l ≡ true
@@ -199,3 +223,4 @@ by-itself t on w =
     (mark 3 (lit< tt)))
     (sequence-sound g (t .decoder .sequence) (w .sequence))
     (output-sound g (t .decoder .output) (w .output))
+    (kept-sound g (t .decoder .kept) (w .kept))

@@ -1,10 +1,12 @@
--- Laws of the command list that the ways go by. Each is one test, computed at every first command of the list.
+-- Laws of the command list that the ways go by. Each but the last is one test, computed at every first command of the list.
 --     fresh        a first command is accepted after FFh by a part that offers everything
 --     no-output    one that takes addresses shows nothing before them
 --     waits-some   one that waits for a second command takes a column or a row
 --     waits-plain  and asks for no copyback
 --     data-shape   one that takes data takes a column and a row, and looks at its page
+--     data-silent  and gives no status
 --     needs-only   one that asks for a copyback closes none
+--     page-only    one whose column is one of the parameter page is 05h within it
 -- Assumes nothing.
 use mathlib.Core.Path.{_≡_, refl}
 use mathlib.Core.Bool.{Bool, true, false, _&&_, _||_, not, false≢true}
@@ -13,9 +15,10 @@ use lib.Dec.{eqb, leb}
 use borrow.Author.Tests.{not-true}
 use Rattle.target.specs.Pick.{pick}
 use Rattle.target.specs.Words.{bitOf}
-use Rattle.target.specs.Commands.{rowOf, byteOf, cyclesOf, thenOf, takesColumn, takesRow, isSecond, waitsSecond, isData, takesProgramData, looksOf, closesCopyback, needsCopyback, firstOf, offered, secondOf, secondRow, classOf, isFirst, isKnown}
+use Rattle.target.specs.Commands.{rowOf, byteOf, cyclesOf, thenOf, takesColumn, takesRow, isSecond, waitsSecond, isData, takesProgramData, looksOf, closesCopyback, needsCopyback, givesStatus, inPage, firstOf, offered, secondOf, secondRow, classOf, isFirst, isKnown}
 use Rattle.target.specs.declared.Words.{Words}
 use Rattle.target.specs.declared.First.{First}
+use Rattle.target.specs.declared.First.the-variants.{Read, ChangeColumn, ChangeColumnEnhanced, Erase, Status, StatusEnhanced, Program, ReadId, ParameterPage, GetFeatures, SetFeatures, CopybackProgram, ChangeColumnInPage}
 use Rattle.target.specs.declared.Output.the-variants as output
 use Rattle.target.specs.declared.commands.Then.{Then}
 use Rattle.target.specs.declared.commands.Then.the-variants as then
@@ -92,6 +95,9 @@ data-then then.Id h = absurd (false≢true h)
 data-then then.ParameterPage h = absurd (false≢true h)
 data-then then.FeatureOut h = absurd (false≢true h)
 
+pub data-silent : (f : First) → takesProgramData f ≡ true → givesStatus f ≡ false
+data-silent f h = rw (data-then (thenOf f) h)
+
 only-test : (f : First) → (not (needsCopyback f) || not (closesCopyback f)) ≡ true
 unfolding rowOf
 only-test f = each-first (λ (x : First). not (needsCopyback x) || not (closesCopyback x)) refl f
@@ -108,3 +114,20 @@ waits-then then.Status h = absurd (false≢true h)
 waits-then then.Id h = absurd (false≢true h)
 waits-then then.ParameterPage h = absurd (false≢true h)
 waits-then then.FeatureOut h = absurd (false≢true h)
+
+-- one command alone has a column of the parameter page
+pub page-only : (f : First) → inPage f ≡ true → f ≡ ChangeColumnInPage
+unfolding rowOf
+page-only Read h = absurd (false≢true h)
+page-only ChangeColumn h = absurd (false≢true h)
+page-only ChangeColumnEnhanced h = absurd (false≢true h)
+page-only Erase h = absurd (false≢true h)
+page-only Status h = absurd (false≢true h)
+page-only StatusEnhanced h = absurd (false≢true h)
+page-only Program h = absurd (false≢true h)
+page-only ReadId h = absurd (false≢true h)
+page-only ParameterPage h = absurd (false≢true h)
+page-only GetFeatures h = absurd (false≢true h)
+page-only SetFeatures h = absurd (false≢true h)
+page-only CopybackProgram h = absurd (false≢true h)
+page-only ChangeColumnInPage h = refl

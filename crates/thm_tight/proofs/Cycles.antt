@@ -7,16 +7,17 @@ use Prim.Native.Nat.{ℕ, zero, suc, _≤_}
 use native.Mathlib.Omega.{arith}
 use lib.Dec.{eqb}
 use borrow.Author.Tests.{leb-true, not-true}
-use Rattle.target.specs.Pick.{orElse}
+use Rattle.target.specs.Pick.{pick, orElse}
 use Rattle.target.specs.Address.{lunOf}
 use Rattle.target.specs.Words.{bitOf}
-use Rattle.target.specs.Commands.{classOf, offered, rowOf, byteOf, needsReady, waitsFor, firstOf, secondOf, secondRow}
+use Rattle.target.specs.Commands.{classOf, offered, rowOf, byteOf, needsReady, waitsFor, givesStatus, firstOf, secondOf, secondRow}
 use Rattle.target.specs.Views.{completed, taking}
 use Rattle.target.specs.Luns.{lunReady, allReady, lunAt, works}
 use Rattle.target.specs.Events.{badRecord}
-use Rattle.target.specs.Place.{isOpen, takesAddress, takesData, hasOutput}
+use Rattle.target.specs.Place.{isOpen, isBare, firstHere, takesAddress, takesData, hasOutput}
 use Rattle.target.specs.declared.Geometry.{Geometry}
 use Rattle.target.specs.declared.Lun.{Lun}
+use Rattle.target.specs.declared.Decoder.{Decoder}
 use Rattle.target.specs.declared.Target.{Target}
 use Rattle.target.specs.declared.Findings.{Findings}
 use Rattle.target.specs.declared.First.{First}
@@ -34,11 +35,10 @@ use Rattle.target.specs.declared.commands.FirstFound.{FirstFound}
 use Rattle.target.specs.declared.commands.FirstFound.the-variants as first
 use Rattle.target.specs.declared.views.Given.{Given}
 use Rattle.target.specs.declared.views.Given.the-variants as given
-use Rattle.target.proofs.Firsts.{named}
 use Rattle.rules.specs.Rules.{unknown, beforeReset, fits, misplaced, beyond, outOfRange, namesWorking, outputWorks, lunWorks, lacksCopyback, noCopyback, workFor, othersWorkFor, othersBusy, isGuarded, lineLow, dataEnded, outputEnded, pastEnd, unoffered, notOffered}
 use Rattle.rules.specs.Rules as rules
 use Rattle.rules.proofs.ByKind.{event, command-verdict, address-verdict, in-verdict, out-verdict}
-use Rattle.effects.specs.Effects.{started, addressed, filled, sequenceAfter, firstOutput, addressedOutput, advanced, outputAfter, addressedLuns, lunsAfter, rowSelects, selectedAfter, clearSet, clearAfter, highAfter, targetAfter}
+use Rattle.effects.specs.Effects.{opened, addressed, filled, sequenceAfter, firstOutput, addressedOutput, advanced, outputAfter, firstKept, rowKept, keptAfter, addressedLuns, lunsAfter, rowSelects, selectedAfter, clearSet, clearAfter, highAfter, targetAfter}
 use Rattle.step.specs.Buffers.{findings}
 use Rattle.thm_tight.proofs.Commands.{every, fresh}
 use Rattle.thm_tight.proofs.Part.{Part, Fine, flagsOf}
@@ -54,9 +54,9 @@ full g flag = record {
   flag = flag;
 }
 
--- after FFh, with these LUN records, a LUN selected, a sequence and an output
-abbrev pub standing : Geometry → List Lun → ℕ → Sequence → Output → Target
-standing g luns selected s o = record {
+-- after FFh, with these LUN records, a LUN selected, a sequence, an output and one that is kept
+abbrev pub keeping : Geometry → List Lun → ℕ → Sequence → Output → Output → Target
+keeping g luns selected s o kept = record {
   powered = true;
   geometry = g;
   words = every;
@@ -66,8 +66,16 @@ standing g luns selected s o = record {
   seen = true;
   selected = selected;
   luns = luns;
-  decoder = record { sequence = s; output = o };
+  decoder = record { sequence = s; output = o; kept = kept };
 }
+
+-- with none kept
+abbrev pub standing : Geometry → List Lun → ℕ → Sequence → Output → Target
+standing g luns selected s o = keeping g luns selected s o output.Nothing
+
+-- no sequence open, none kept
+abbrev pub resting : Output → Decoder
+resting o = record { sequence = Idle; output = o; kept = output.Nothing }
 
 -- with every LUN as FFh leaves it
 abbrev pub stand : Geometry → ℕ → Sequence → Output → Target
@@ -153,9 +161,14 @@ module _ (luns : List Lun) (calm : Calm luns) where
     unfolding orElse
     opens = command-verdict opening (byteOf f) ∙ rw (is-seen, is-known, is-fit, is-free, is-high)
 
-    opened-by : (found : Findings) → targetAfter opening (event 0 (byteOf f)) found ≡ standing g luns selected (started f) (firstOutput selected (first.Found f))
-    unfolding targetAfter highAfter clearAfter selectedAfter lunsAfter sequenceAfter outputAfter
-    opened-by found = let p = fresh f in rw (not-true (eqb (byteOf f) 0xff) (p .3), named f)
+    -- which first command the byte is, the place says
+    abbrev pub opened-to : Target
+    opened-to =
+        keeping g luns selected (opened (firstHere (resting o) (byteOf f))) (firstOutput selected (firstOf (byteOf f))) (firstKept (resting o) (firstOf (byteOf f)))
+
+    opened-by : (found : Findings) → targetAfter opening (event 0 (byteOf f)) found ≡ opened-to
+    unfolding targetAfter highAfter clearAfter selectedAfter lunsAfter sequenceAfter outputAfter keptAfter
+    opened-by found = let p = fresh f in rw (not-true (eqb (byteOf f) 0xff) (p .3))
 
 -- the second commands that the ways go by
 pub data Second : Sequence → ℕ → Type 0 where
@@ -178,7 +191,7 @@ second-known luns (copying e) = (refl, λ _. refl)
 second-known luns moving = (refl, λ _. refl)
 second-known luns programming = (refl, λ _. refl)
 
-second-fits : {s : Sequence} {v : ℕ} (o : Output) → Second s v → misplaced (record { sequence = s; output = o }) (event 0 v) ≡ false
+second-fits : {s : Sequence} {v : ℕ} (o : Output) → Second s v → misplaced (record { sequence = s; output = o; kept = output.Nothing }) (event 0 v) ≡ false
 unfolding misplaced fits rowOf secondOf secondRow
 second-fits o (showing e) = rw (e)
 second-fits o (copying e) = rw (e)
@@ -196,6 +209,18 @@ reset-accepted : (t : Target) → rules.verdict t (event 0 0xff) ≡ Accepted
 unfolding orElse beforeReset unknown classOf offered misplaced fits othersBusy lineLow rowOf firstOf secondOf secondRow
 reset-accepted t = command-verdict t 0xff ∙ rw (and-no (isOpen (t .decoder .sequence)))
 
+-- where none is kept an address leaves none
+none-kept : (g : Geometry) (bare : Bool) (k : Given) → pick bare output.Nothing (rowKept g k output.Nothing) ≡ output.Nothing
+none-kept g true k = refl
+none-kept g false given.Nothing = refl
+none-kept g false (given.Column k) = refl
+none-kept g false (given.Row k) = by (givesStatus (k .first) && true)
+  where
+    by : (b : Bool) → pick b output.Nothing output.Nothing ≡ output.Nothing
+    by true = refl
+    by false = refl
+none-kept g false (given.Single k) = refl
+
 -- the rules that each of the other cycles can meet
 module _ (g : Geometry) (luns : List Lun) (calm : Calm luns) (selected : ℕ) (s : Sequence) (o : Output) where
   address-accepted : (v : ℕ) → takesAddress s ≡ true → beyond g (completed s v) ≡ false → Unasked g luns (completed s v) → rules.verdict (standing g luns selected s o) (event 1 v) ≡ Accepted
@@ -204,15 +229,16 @@ module _ (g : Geometry) (luns : List Lun) (calm : Calm luns) (selected : ℕ) (s
       address-verdict (standing g luns selected s o) v ∙ rw (h, near, names-not luns calm g selected (completed s v), free .lacks)
 
   address-leaves : (v : ℕ) (found : Findings) → Unasked g luns (completed s v) → targetAfter (standing g luns selected s o) (event 1 v) found ≡ standing g luns (rowSelects g selected (completed s v)) (addressed s v) (addressedOutput g (completed s v) o)
-  unfolding targetAfter highAfter clearAfter selectedAfter lunsAfter sequenceAfter outputAfter
-  address-leaves v found free = rw (free .closes)
+  unfolding targetAfter highAfter clearAfter selectedAfter lunsAfter sequenceAfter outputAfter keptAfter
+  address-leaves v found free = rw (free .closes, none-kept g (isBare s) (completed s v))
 
-  out-accepted : hasOutput o ≡ true → outputWorks luns o ≡ false → outputEnded g o ≡ false → rules.verdict (standing g luns selected s o) (event 3 0) ≡ Accepted
+  -- data out with no sequence open
+  out-accepted : hasOutput o ≡ true → outputWorks luns o ≡ false → outputEnded g o ≡ false → rules.verdict (standing g luns selected Idle o) (event 3 0) ≡ Accepted
   unfolding orElse badRecord beforeReset misplaced fits lunWorks pastEnd
-  out-accepted h idle more = out-verdict (standing g luns selected s o) 0 ∙ rw (h, idle, more)
+  out-accepted h idle more = out-verdict (standing g luns selected Idle o) 0 ∙ rw (h, idle, more)
 
-  out-leaves : (found : Findings) → targetAfter (standing g luns selected s o) (event 3 0) found ≡ standing g luns selected s (advanced o)
-  unfolding targetAfter highAfter clearAfter selectedAfter lunsAfter sequenceAfter outputAfter
+  out-leaves : (found : Findings) → targetAfter (standing g luns selected Idle o) (event 3 0) found ≡ standing g luns selected Idle (advanced o)
+  unfolding targetAfter highAfter clearAfter selectedAfter lunsAfter sequenceAfter outputAfter keptAfter
   out-leaves found = refl
 
   pub in-accepted : (v : ℕ) → takesData s ≡ true → unoffered every (taking s) v ≡ false → dataEnded g (taking s) ≡ false → rules.verdict (standing g luns selected s o) (event 2 v) ≡ Accepted
@@ -220,31 +246,31 @@ module _ (g : Geometry) (luns : List Lun) (calm : Calm luns) (selected : ℕ) (s
   in-accepted v h offer more = in-verdict (standing g luns selected s o) v ∙ rw (h, offer, more)
 
   in-leaves : (v : ℕ) (found : Findings) → clearSet false (taking s) ≡ false → targetAfter (standing g luns selected s o) (event 2 v) found ≡ standing g luns selected (filled s (taking s) v) o
-  unfolding targetAfter highAfter clearAfter selectedAfter lunsAfter sequenceAfter outputAfter
+  unfolding targetAfter highAfter clearAfter selectedAfter lunsAfter sequenceAfter outputAfter keptAfter
   in-leaves v found h = rw (h)
 
 module _ (g : Geometry) (flag : ℕ) (fine : Fine (full g flag)) where
   -- after FFh
   pub still : Way (full g flag) (stand g 0 Idle output.Nothing)
-  unfolding targetAfter highAfter clearAfter selectedAfter lunsAfter sequenceAfter outputAfter
+  unfolding targetAfter highAfter clearAfter selectedAfter lunsAfter sequenceAfter outputAfter keptAfter
   still = onward fine (at-power (full g flag)) (event 0 0xff) (omega arith) (omega arith) (reset-accepted _) _ (λ _. refl)
 
-  pub second : (luns : List Lun) (selected : ℕ) (s : Sequence) (o : Output) (v : ℕ) → Second s v → (y : Target) → ((counts : List ℕ) → targetAfter (standing g luns selected s o) (event 0 v) (findings g s (event 0 v) counts (flagsOf (full g flag))) ≡ y)
+  pub second : (luns : List Lun) (selected : ℕ) (s : Sequence) (o : Output) (v : ℕ) → Second s v → (y : Target) → ((counts : List ℕ) → targetAfter (standing g luns selected s o) (event 0 v) (findings g (standing g luns selected s o .words) s (event 0 v) counts (flagsOf (full g flag))) ≡ y)
       → Way (full g flag) (standing g luns selected s o) → Way (full g flag) y
   second luns selected s o v which y leaves w = onward fine w (event 0 v) (omega arith) (second-small which) (second-accepted g luns selected o which) y leaves
 
   -- the other cycles, while no LUN works
   module _ (luns : List Lun) (calm : Calm luns) where
-    pub command : (selected : ℕ) (o : Output) → Way (full g flag) (standing g luns selected Idle o) → (f : First) → Way (full g flag) (standing g luns selected (started f) (firstOutput selected (first.Found f)))
+    pub command : (selected : ℕ) (o : Output) → Way (full g flag) (standing g luns selected Idle o) → (f : First) → Way (full g flag) (opened-to luns calm g selected o f)
     command selected o w f = onward fine w (event 0 (byteOf f)) (omega arith) (leb-true _ _ (fresh f .4)) (opens luns calm g selected o f) _ (λ _. opened-by luns calm g selected o f _)
 
     pub address : (selected : ℕ) (s : Sequence) (o : Output) (v : ℕ) → v ≤ 255 → takesAddress s ≡ true → beyond g (completed s v) ≡ false → Unasked g luns (completed s v)
         → Way (full g flag) (standing g luns selected s o) → Way (full g flag) (standing g luns (rowSelects g selected (completed s v)) (addressed s v) (addressedOutput g (completed s v) o))
     address selected s o v small h near free w = onward fine w (event 1 v) (omega arith) small (address-accepted g luns calm selected s o v h near free) _ (λ _. address-leaves g luns calm selected s o v _ free)
 
-    pub out : (selected : ℕ) (s : Sequence) (o : Output) → hasOutput o ≡ true → outputWorks luns o ≡ false → outputEnded g o ≡ false
-        → Way (full g flag) (standing g luns selected s o) → Way (full g flag) (standing g luns selected s (advanced o))
-    out selected s o h idle more w = onward fine w (event 3 0) (omega arith) (omega arith) (out-accepted g luns calm selected s o h idle more) _ (λ _. out-leaves g luns calm selected s o _)
+    pub out : (selected : ℕ) (o : Output) → hasOutput o ≡ true → outputWorks luns o ≡ false → outputEnded g o ≡ false
+        → Way (full g flag) (standing g luns selected Idle o) → Way (full g flag) (standing g luns selected Idle (advanced o))
+    out selected o h idle more w = onward fine w (event 3 0) (omega arith) (omega arith) (out-accepted g luns calm selected Idle o h idle more) _ (λ _. out-leaves g luns calm selected Idle o _)
 
     pub data-in : (selected : ℕ) (s : Sequence) (o : Output) (v : ℕ) → v ≤ 255 → takesData s ≡ true → unoffered every (taking s) v ≡ false → dataEnded g (taking s) ≡ false → clearSet false (taking s) ≡ false
         → Way (full g flag) (standing g luns selected s o) → Way (full g flag) (standing g luns selected (filled s (taking s) v) o)

@@ -30,7 +30,7 @@ use Rattle.thm_tight.proofs.Part.{Fine, flagsOf, flag-at}
 use Rattle.thm_tight.proofs.Ways.{Way, reached}
 use Rattle.thm_tight.proofs.Cycles.{programming, second, full, stand, ready-at, still}
 use Rattle.thm_tight.proofs.Addresses.{rowAt, lun-at, row-there}
-use Rattle.thm_tight.proofs.Sequences.{filling-at, ready-free, begin, filling-first, copied-base, copied-open}
+use Rattle.thm_tight.proofs.Sequences.{filling-at, ready-free, begin, filling-first, copied-luns, finishes, copied-open}
 
 -- 80h takes data, and asks for no copyback
 program-is : (takesProgramData Program ≡ true) × (needsCopyback Program ≡ false)
@@ -45,7 +45,7 @@ module _ (g : Geometry) (l : ℕ) where
   abbrev failing : Target
   failing = targetAfter filled (event 0 0x10) (record { proceeds = false })
 
-  refuses : rowExists g (rowAt g l) ≡ true → (counts : List ℕ) → findings g (filled .decoder .sequence) (event 0 0x10) counts (flagsOf (full g 1)) ≡ record { proceeds = false }
+  refuses : rowExists g (rowAt g l) ≡ true → (counts : List ℕ) → findings g (filled .words) (filled .decoder .sequence) (event 0 0x10) counts (flagsOf (full g 1)) ≡ record { proceeds = false }
   unfolding findings blockBad secondOf secondRow
   refuses there counts = rw (flag-at (full g 1) (blockIndex g (rowAt g l)) (block-below g (rowAt g l) (row-block g (rowAt g l) there)))
 
@@ -79,7 +79,7 @@ module _ (g : Geometry) (fine : Fine (full g 0)) (ruined : Fine (full g 1)) (l :
   fails k =
       let there = row-there g (limits g (fine .limited)) l k in
       second g 1 ruined allReady (lunOf g (rowAt g l)) _ output.Nothing 0x10 programming (failing g l)
-      (λ counts. ap (targetAfter (filled g l) (event 0 0x10)) (refuses g l there counts)) (filling-first g 1 ruined (begin g 1 ruined) Program (program-is .0) (rowAt g l) there (ready-free g Program (rowAt g l) (program-is .1)))
+      (λ counts. ap (targetAfter (filled g l) (event 0 0x10)) (refuses g l there counts)) (filling-first g 1 ruined Program (begin g 1 ruined Program) (program-is .0) (rowAt g l) there (ready-free g Program (rowAt g l) (program-is .1)))
 
   -- a mark that is off where a LUN is ready and on where it fails
   mark-given : (mark : Lun → Bool) → mark lunReady ≡ false → mark (record { working = true; fail = true; copyback = false }) ≡ true → (b : Bool) → (b ≡ true → l < g .luns) → Reached g (λ t. mark (lunAt (t .luns) l) ≡ b)
@@ -102,8 +102,8 @@ module _ (g : Geometry) (fine : Fine (full g 0)) (ruined : Fine (full g 1)) (l :
     copied : l < g .luns → Reached g (λ t. copybackAt (t .luns) l ≡ true)
     copied there =
         let row = row-there g (limits g (fine .limited)) l there in
-        reached (λ (t : Target). copybackAt (t .luns) l ≡ true) fine (copied-base g 0 fine (rowAt g l) row .way)
-        (subst (λ (n : ℕ). copybackAt (copied-base g 0 fine (rowAt g l) row .luns) n ≡ true) (lun-at g l) (copied-open g 0 fine (rowAt g l) row))
+        reached (λ (t : Target). copybackAt (t .luns) l ≡ true) fine (finishes g 0 fine (rowAt g l) row)
+        (subst (λ (n : ℕ). copybackAt (copied-luns g 0 fine (rowAt g l) row) n ≡ true) (lun-at g l) (copied-open g 0 fine (rowAt g l) row))
 
     copyback-by : (b : Bool) → (b ≡ true → l < g .luns) → Reached g (λ t. copybackAt (t .luns) l ≡ b)
     copyback-by true there = copied (there refl)

@@ -1,55 +1,53 @@
--- Every output that rule 13 lets pass: the cycles that leave it open.
+-- Every output that rule 13 lets pass: the cycles that leave it open, and 70h after them, which keeps it.
 -- Assumes nothing.
 use mathlib.Core.Path.{_≡_, refl, ap, _∙_, subst}
-use mathlib.Core.Bool.{true, false}
+use mathlib.Core.Bool.{true, false, not}
 use Prim.Native.Nat.{ℕ, zero, suc, _+_, _≤_, _<_}
 use native.Mathlib.Numerals.{add-one}
 use native.Mathlib.Omega.{arith}
 use lib.Dec.{eqb, ltb, leb}
-use borrow.Author.Tests.{ltb-true, leb-true, lt-ltb, lt-leb}
+use borrow.Author.Tests.{ltb-true, leb-true, lt-ltb, lt-leb, not-true}
 use Rattle.target.specs.Address.{lunOf, lunExists}
 use Rattle.target.specs.Sizes.{pageSize}
-use Rattle.target.specs.Commands.{needsCopyback, rowOf, cyclesOf, thenOf, takesColumn, takesRow, knowsAddress, secondOf, secondRow}
+use Rattle.target.specs.Commands.{needsCopyback, inPage, rowOf, cyclesOf, thenOf, takesColumn, takesRow, knowsAddress, firstOf, secondOf, secondRow}
 use Rattle.target.specs.Luns.{allReady}
-use Rattle.target.specs.Place.{hasOutput}
+use Rattle.target.specs.Place.{hasOutput, showsStatus}
 use Rattle.target.specs.declared.Column.{Column}
 use Rattle.target.specs.declared.Row.{Row}
 use Rattle.target.specs.declared.Geometry.{Geometry}
 use Rattle.target.specs.declared.Target.{Target}
 use Rattle.target.specs.declared.Findings.{Findings}
-use Rattle.target.specs.declared.First.{First}
-use Rattle.target.specs.declared.First.the-variants.{ChangeColumnEnhanced, StatusEnhanced, ReadId, ParameterPage, GetFeatures}
+use Rattle.target.specs.declared.First.the-variants.{ChangeColumnEnhanced, Status, StatusEnhanced, ReadId, GetFeatures}
 use Rattle.target.specs.declared.Wait.{Wait}
-use Rattle.target.specs.declared.Sequence.the-variants.{Idle, Single, Due}
+use Rattle.target.specs.declared.Sequence.the-variants.{Idle, Due}
 use Rattle.target.specs.declared.Output.{Output}
 use Rattle.target.specs.declared.Output.the-variants as output
-use Rattle.target.specs.declared.commands.Then.{Then}
 use Rattle.target.specs.declared.commands.Then.the-variants as then
 use Rattle.target.proofs.Both.{both}
 use Rattle.target.proofs.Limits.{Limits, limits}
 use Rattle.rules.specs.Rules.{rowFits, outputWorks, outputEnded}
 use Rattle.rules.proofs.ByKind.{event}
-use Rattle.effects.specs.Effects.{followed, shown, advanced, sequenceAfter, outputAfter, lunsAfter, selectedAfter, clearAfter, highAfter, targetAfter}
-use Rattle.step.specs.Usable.{columnHeld, outputSound}
-use Rattle.thm_tight.specs.Tight.{Shows, OutputGiven}
+use Rattle.effects.specs.Effects.{shown, advanced, sequenceAfter, outputAfter, keptAfter, lunsAfter, selectedAfter, clearAfter, highAfter, targetAfter}
+use Rattle.step.specs.Usable.{columnHeld, outputSound, keptSound}
+use Rattle.thm_tight.specs.Tight.{Shows, Keeps, EachGiven, OutputGiven, KeptGiven}
 use Rattle.thm_tight.proofs.Part.{Fine}
 use Rattle.thm_tight.proofs.Ways.{Way, to-end, reached}
-use Rattle.thm_tight.proofs.Cycles.{showing, second, full, stand, works-not, still, address, out}
+use Rattle.thm_tight.proofs.Cycles.{showing, second, full, keeping, stand, opened-to, works-not, still, command, out}
 use Rattle.thm_tight.proofs.Addresses.{rowAt, lun-at, lun-there}
-use Rattle.thm_tight.proofs.Sequences.{ready-free, begin, row-whole, single}
+use Rattle.thm_tight.proofs.Sequences.{ready-free, paged, begin, row-whole, answered}
 
 -- 06h, and what it shows
 abbrev asked : Column → Row → Wait
 asked c r = record { first = ChangeColumnEnhanced; column = c; row = r }
 
 showed : (g : Geometry) (selected : ℕ) (c : Column) (r : Row) (found : Findings) → targetAfter (stand g selected (Due (asked c r)) output.Nothing) (event 0 0xe0) found ≡ stand g selected Idle (output.Register (lunOf g r) c)
-unfolding targetAfter highAfter clearAfter selectedAfter lunsAfter sequenceAfter outputAfter rowOf secondOf secondRow
+unfolding targetAfter highAfter clearAfter selectedAfter lunsAfter sequenceAfter outputAfter keptAfter rowOf secondOf secondRow
 showed g selected c r found = refl
 
 -- the attributes of the commands that are named here
-asked-is : (takesRow ChangeColumnEnhanced ≡ true) × (takesColumn ChangeColumnEnhanced ≡ true) × (thenOf ChangeColumnEnhanced ≡ then.Second) × (needsCopyback ChangeColumnEnhanced ≡ false)
+asked-is : (takesRow ChangeColumnEnhanced ≡ true) × (takesColumn ChangeColumnEnhanced ≡ true) × (thenOf ChangeColumnEnhanced ≡ then.Second) × (needsCopyback ChangeColumnEnhanced ≡ false) × (inPage ChangeColumnEnhanced ≡ false)
 unfolding rowOf
-asked-is = (refl, refl, refl, refl)
+asked-is = (refl, refl, refl, refl, refl)
 
 status-is : (takesRow StatusEnhanced ≡ true) × (takesColumn StatusEnhanced ≡ false) × (thenOf StatusEnhanced ≡ then.Status) × (needsCopyback StatusEnhanced ≡ false)
 unfolding rowOf
@@ -63,13 +61,24 @@ ids-is : (eqb (cyclesOf ReadId) 1 ≡ true) × (thenOf ReadId ≡ then.Id) × (k
 unfolding rowOf
 ids-is = (refl, refl, refl, refl)
 
-page-is : (eqb (cyclesOf ParameterPage) 1 ≡ true) × (thenOf ParameterPage ≡ then.ParameterPage) × (knowsAddress ParameterPage 0x00 ≡ true)
-unfolding rowOf
-page-is = (refl, refl, refl)
-
 feature-is : (eqb (cyclesOf GetFeatures) 1 ≡ true) × (thenOf GetFeatures ≡ then.FeatureOut) × (knowsAddress GetFeatures 0x01 ≡ true)
 unfolding rowOf
 feature-is = (refl, refl, refl)
+
+-- a run that leaves the whole output gives each of its numbers
+each-given : (Leaving : Output → Type 0) (o : Output) → Leaving o → EachGiven Leaving o
+each-given Leaving output.Nothing w = w
+each-given Leaving (output.Register l c) w = ((c, w), (l, w))
+each-given Leaving (output.Parameters at) w = w
+each-given Leaving (output.Status l) w = w
+each-given Leaving (output.Ids at) w = w
+each-given Leaving (output.Signature at) w = w
+each-given Leaving (output.Feature at) w = w
+
+-- 70h with no sequence open: the output that it ends is kept, unless it is a status itself
+kept-behind : (g : Geometry) (selected : ℕ) (o : Output) → showsStatus o ≡ false → opened-to allReady works-not g selected o Status ≡ keeping g allReady selected Idle (output.Status selected) o
+unfolding rowOf firstOf
+kept-behind g selected o none = rw (none)
 
 module _ (g : Geometry) (flag : ℕ) (fine : Fine (full g flag)) where
   m : Limits g
@@ -81,15 +90,15 @@ module _ (g : Geometry) (flag : ℕ) (fine : Fine (full g flag)) where
     outs selected w zero h = w
     outs selected w (suc n) h =
         subst (λ (o : Output). Way (full g flag) (stand g selected Idle o)) (next n ∙ ap places (add-one n))
-        (out g flag fine allReady works-not selected Idle (places n) (has n) (free n) (ends n ∙ lt-leb end n h) (outs selected w n (omega arith)))
+        (out g flag fine allReady works-not selected (places n) (has n) (free n) (ends n ∙ lt-leb end n h) (outs selected w n (omega arith)))
 
   -- A register.
 
   register-below : (l : ℕ) → l < g .luns → (c : Column) → c .0 < pageSize g → Way (full g flag) (stand g l Idle (output.Register l c))
   register-below l h c below =
       let r = rowAt g l in
-      let held : columnHeld g ChangeColumnEnhanced c ≡ true = rw (asked-is .1) (lt-ltb (c .0) (pageSize g) below) in
-      let due = row-whole g flag fine (begin g flag fine) ChangeColumnEnhanced (asked-is .0) c held r (lun-fits g r (lun-there g m l h) .0) (ready-free g ChangeColumnEnhanced r (asked-is .3)) then.Second (asked-is .2) in
+      let held : columnHeld g ChangeColumnEnhanced c ≡ true = rw (asked-is .1, asked-is .4) (lt-ltb (c .0) (pageSize g) below) in
+      let due = row-whole g flag fine ChangeColumnEnhanced (begin g flag fine ChangeColumnEnhanced) (asked-is .0) c held r (lun-fits g r (lun-there g m l h) .0) (ready-free g ChangeColumnEnhanced r (asked-is .3)) then.Second (asked-is .2) in
       subst (λ (n : ℕ). Way (full g flag) (stand g n Idle (output.Register n c))) (lun-at g l)
       (second g flag fine allReady (lunOf g r) (Due (asked c r)) output.Nothing 0xe0 (showing refl) _ (λ _. showed g (lunOf g r) c r _) due)
 
@@ -98,41 +107,55 @@ module _ (g : Geometry) (flag : ℕ) (fine : Fine (full g flag)) where
   register l h c most =
       let least = m .page-min in
       to-end (λ (x : Column). stand g l Idle (output.Register l x)) (pageSize g) (omega arith) (register-below l h)
-      (λ x below w. out g flag fine allReady works-not l Idle (output.Register l x) refl (works-not l) (lt-leb (pageSize g) (x .0) below) w)
+      (λ x below w. out g flag fine allReady works-not l (output.Register l x) refl (works-not l) (lt-leb (pageSize g) (x .0) below) w)
       c most
 
   -- 78h: the status of the LUN, which it selects
   pub status : (l : ℕ) → l < g .luns → Way (full g flag) (stand g l Idle (output.Status l))
   status l h =
       subst (λ (n : ℕ). Way (full g flag) (stand g n Idle (output.Status n))) (lun-at g l)
-      (row-whole g flag fine (begin g flag fine) StatusEnhanced (status-is .0) (record { 0 = 0 }) (rw (status-is .1)) (rowAt g l) (lun-fits g (rowAt g l) (lun-there g m l h) .1) (ready-free g StatusEnhanced (rowAt g l) (status-is .3)) then.Status (status-is .2))
+      (row-whole g flag fine StatusEnhanced (begin g flag fine StatusEnhanced) (status-is .0) (record { 0 = 0 }) (rw (status-is .1)) (rowAt g l) (lun-fits g (rowAt g l) (lun-there g m l h) .1) (ready-free g StatusEnhanced (rowAt g l) (status-is .3)) then.Status (status-is .2))
 
-  -- after a command with one address
-  answered : (f : First) (v : ℕ) → v ≤ 255 → eqb (cyclesOf f) 1 ≡ true → (next : Then) → thenOf f ≡ next → knowsAddress f v ≡ true → Way (full g flag) (stand g 0 (followed next f (record { 0 = 0 }) (record { 0 = 0 })) (shown next 0 v output.Nothing))
-  answered f v small one next told h =
-      subst (λ (x : Then). Way (full g flag) (stand g 0 (followed x f (record { 0 = 0 }) (record { 0 = 0 })) (shown x 0 v output.Nothing))) told
-      (address g flag fine allReady works-not 0 (Single f) output.Nothing v small refl (rw (h)) (record { lacks = refl; closes = refl })
-      (single g flag fine (begin g flag fine) f one))
+  -- Every output that passes stands open after some cycles.
 
-  given : (selected : ℕ) (o : Output) → Way (full g flag) (stand g selected Idle o) → Shows g o
-  given selected o w = reached (λ (t : Target). t .decoder .output ≡ o) fine w refl
+  abbrev Open : Output → Type 0
+  Open o = (selected : ℕ) × Way (full g flag) (stand g selected Idle o)
+
+  -- the first byte of an answer to a lone address
+  ids : (v : ℕ) → v ≤ 255 → knowsAddress ReadId v ≡ true → Way (full g flag) (stand g 0 Idle (shown then.Id 0 v output.Nothing))
+  ids v small h = answered g flag fine ReadId (begin g flag fine ReadId) (ids-is .0) then.Id (ids-is .1) v small h
+
+  feature : Way (full g flag) (stand g 0 Idle (output.Feature 0))
+  feature =
+      answered g flag fine GetFeatures (begin g flag fine GetFeatures) (feature-is .0) then.FeatureOut (feature-is .1) 0x01 (omega arith) (feature-is .2)
+
+  shows : (o : Output) → outputSound g o ≡ true → Open o
+  shows output.Nothing h = (0, still g flag fine)
+  shows (output.Register l c) h =
+      let p = both (ltb l (g .luns)) (leb (c .0) (pageSize g)) h in
+      (l, register l (ltb-true _ _ (p .0)) c (leb-true _ _ (p .1)))
+  shows (output.Parameters at) h =
+      (0, outs output.Parameters 768 (λ _. refl) (λ _. refl) (λ _. refl) (λ _. refl) 0 (paged g flag fine) at (leb-true _ _ h))
+  shows (output.Status l) h = (l, status l (ltb-true _ _ h))
+  shows (output.Ids at) h =
+      (0, outs output.Ids 2 (λ _. refl) (λ _. refl) (λ _. refl) (λ _. refl) 0 (ids 0x00 (omega arith) (ids-is .2)) at (leb-true _ _ h))
+  shows (output.Signature at) h =
+      (0, outs output.Signature 4 (λ _. refl) (λ _. refl) (λ _. refl) (λ _. refl) 0 (ids 0x20 (omega arith) (ids-is .3)) at (leb-true _ _ h))
+  shows (output.Feature at) h =
+      (0, outs output.Feature 4 (λ _. refl) (λ _. refl) (λ _. refl) (λ _. refl) 0 feature at (leb-true _ _ h))
 
   pub output-given : (o : Output) → outputSound g o ≡ true → OutputGiven g o
-  output-given output.Nothing h = given 0 _ (still g flag fine)
-  output-given (output.Register l c) h =
-      let p = both (ltb l (g .luns)) (leb (c .0) (pageSize g)) h in
-      let w : Shows g (output.Register l c) = given l _ (register l (ltb-true _ _ (p .0)) c (leb-true _ _ (p .1))) in
-      ((c, w), (l, w))
-  output-given (output.Parameters at) h =
-      given 0 _ (outs output.Parameters 768 (λ _. refl) (λ _. refl) (λ _. refl) (λ _. refl) 0
-      (answered ParameterPage 0x00 (omega arith) (page-is .0) then.ParameterPage (page-is .1) (page-is .2)) at (leb-true _ _ h))
-  output-given (output.Status l) h = given l _ (status l (ltb-true _ _ h))
-  output-given (output.Ids at) h =
-      given 0 _ (outs output.Ids 2 (λ _. refl) (λ _. refl) (λ _. refl) (λ _. refl) 0
-      (answered ReadId 0x00 (omega arith) (ids-is .0) then.Id (ids-is .1) (ids-is .2)) at (leb-true _ _ h))
-  output-given (output.Signature at) h =
-      given 0 _ (outs output.Signature 4 (λ _. refl) (λ _. refl) (λ _. refl) (λ _. refl) 0
-      (answered ReadId 0x20 (omega arith) (ids-is .0) then.Id (ids-is .1) (ids-is .3)) at (leb-true _ _ h))
-  output-given (output.Feature at) h =
-      given 0 _ (outs output.Feature 4 (λ _. refl) (λ _. refl) (λ _. refl) (λ _. refl) 0
-      (answered GetFeatures 0x01 (omega arith) (feature-is .0) then.FeatureOut (feature-is .1) (feature-is .2)) at (leb-true _ _ h))
+  output-given o h =
+      each-given (Shows g) o (reached (λ (t : Target). t .decoder .output ≡ o) fine (shows o h .1) refl)
+
+  -- and is kept by 70h there, unless it is a status
+  keeps : (o : Output) → showsStatus o ≡ false → Open o → Keeps g o
+  keeps o none w =
+      reached (λ (t : Target). t .decoder .kept ≡ o) fine
+      (subst (Way (full g flag)) (kept-behind g (w .0) o none) (command g flag fine allReady works-not (w .0) o (w .1) Status))
+      refl
+
+  pub kept-given : (o : Output) → keptSound g o ≡ true → KeptGiven g o
+  kept-given o h =
+      let p = both (outputSound g o) (not (showsStatus o)) h in
+      each-given (Keeps g) o (keeps o (not-true (showsStatus o) (p .1)) (shows o (p .0)))

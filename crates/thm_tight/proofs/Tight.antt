@@ -28,8 +28,8 @@ use Rattle.thm_tight.proofs.Part.{Part, Fine}
 use Rattle.thm_tight.proofs.Ways.{fresh, at-power, onward, reached}
 use Rattle.thm_tight.proofs.Commands.{every}
 use Rattle.thm_tight.proofs.Cycles.{full, stand, works-not, still, in-accepted}
-use Rattle.thm_tight.proofs.Sequences.{setting, begin, setting-three, sequence-given}
-use Rattle.thm_tight.proofs.Outputs.{status, output-given}
+use Rattle.thm_tight.proofs.Sequences.{setting, setting-three, sequence-given}
+use Rattle.thm_tight.proofs.Outputs.{status, output-given, kept-given}
 use Rattle.thm_tight.proofs.Marks.{working-given, fail-given, copyback-given}
 
 -- a part of the geometry, with these words and IDs
@@ -100,7 +100,7 @@ module _ (g : Geometry) (fine : Fine (full g 0)) where
   clear-given : (b : Bool) → Reached g (λ t. t .clear ≡ b)
   clear-given true =
       reached (λ (t : Target). t .clear ≡ true) fine
-      (onward fine (setting-three g 0 fine (begin g 0 fine) 0x40 refl) (event 2 0) (omega arith) (omega arith) (in-accepted g allReady works-not 0 (Setting (setting 3 0x40)) output.Nothing 0 refl refl refl) (targetAfter (set g) (event 2 0) (record { proceeds = true })) (λ _. cleared g _))
+      (onward fine (setting-three g 0 fine 0x40 refl) (event 2 0) (omega arith) (omega arith) (in-accepted g allReady works-not 0 (Setting (setting 3 0x40)) output.Nothing 0 refl refl refl) (targetAfter (set g) (event 2 0) (record { proceeds = true })) (λ _. cleared g _))
       (is-clear g)
   clear-given false = reached (λ (t : Target). t .clear ≡ false) fine (at-power (full g 0)) refl
 
@@ -135,4 +135,5 @@ tight t typed h =
       copyback = λ l k. copyback-given g fine ruined l k (t .luns) (s .marks);
       sequence = sequence-given g 0 fine (t .decoder .sequence) (typed .sequence) (s .sequence);
       output = output-given g 0 fine (t .decoder .output) (s .output);
+      kept = kept-given g 0 fine (t .decoder .kept) (s .kept);
     }

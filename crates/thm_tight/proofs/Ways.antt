@@ -55,7 +55,7 @@ fresh k = record {
   seen = false;
   selected = 0;
   luns = allReady;
-  decoder = record { sequence = Idle; output = output.Nothing };
+  decoder = record { sequence = Idle; output = output.Nothing; kept = output.Nothing };
 }
 
 pub at-power : (k : Part) → Way k (fresh k)
@@ -73,7 +73,7 @@ at-power k = record {
     seen = false;
     selected = 0;
     luns = allReady;
-    decoder = record { sequence = Idle; output = output.Nothing };
+    decoder = record { sequence = Idle; output = output.Nothing; kept = output.Nothing };
   };
 }
 
@@ -91,21 +91,21 @@ unfolding after
 snoc page flags [] e s = refl
 snoc page flags (d ∷ es) e s = snoc page flags es e (left (stepAt page flags s d))
 
-steady-accepted : (t : Target) (e : Event) (page : List ℕ) (b : Buffers) (flags : List ℕ) → verdict t e ≡ Accepted → steady t e page b flags .target ≡ targetAfter t e (findings (t .geometry) (t .decoder .sequence) e (b .counts) flags)
+steady-accepted : (t : Target) (e : Event) (page : List ℕ) (b : Buffers) (flags : List ℕ) → verdict t e ≡ Accepted → steady t e page b flags .target ≡ targetAfter t e (findings (t .geometry) (t .words) (t .decoder .sequence) e (b .counts) flags)
 unfolding steady byVerdict accepted acceptedBy
 steady-accepted t e page b flags h = rw (h)
 
 module _ {k : Part} (f : Fine k) {x : Target} (w : Way k x) (e : Event) (kind : e .kind ≤ 255) (value : e .value ≤ 255) (ok : verdict x e ≡ Accepted) where
-  steps : stepAt (pageOf k) (flagsOf k) (standing k (w .events)) e .target ≡ targetAfter x e (findings (x .geometry) (x .decoder .sequence) e (standing k (w .events) .buffers .counts) (flagsOf k))
+  steps : stepAt (pageOf k) (flagsOf k) (standing k (w .events)) e .target ≡ targetAfter x e (findings (x .geometry) (x .words) (x .decoder .sequence) e (standing k (w .events) .buffers .counts) (flagsOf k))
   steps =
       let s = standing k (w .events) in
       let on = powered-fit (pageOf k) (k .device) (arrayOf k) (registersOf k) (countsOf k) (flagsOf k) (powers-on k f) in
       let fit = run-fit (pageOf k) (k .device) (arrayOf k) (registersOf k) (countsOf k) (flagsOf k) (powers-on k f) (w .events) (powered k) on in
       ap (λ (o : Outcome). o .target) (step-steady (s .target) e (pageOf k) (s .buffers) (flagsOf k) fit)
       ∙ steady-accepted (s .target) e (pageOf k) (s .buffers) (flagsOf k) (ap (λ (t : Target). verdict t e) (w .stands) ∙ ok)
-      ∙ ap (λ (t : Target). targetAfter t e (findings (t .geometry) (t .decoder .sequence) e (s .buffers .counts) (flagsOf k))) (w .stands)
+      ∙ ap (λ (t : Target). targetAfter t e (findings (t .geometry) (t .words) (t .decoder .sequence) e (s .buffers .counts) (flagsOf k))) (w .stands)
 
-  pub onward : (y : Target) → ((counts : List ℕ) → targetAfter x e (findings (x .geometry) (x .decoder .sequence) e counts (flagsOf k)) ≡ y) → Way k y
+  pub onward : (y : Target) → ((counts : List ℕ) → targetAfter x e (findings (x .geometry) (x .words) (x .decoder .sequence) e counts (flagsOf k)) ≡ y) → Way k y
   onward y leaves = record {
     events = w .events ++ (e ∷ []);
     bytes = snoc-bytes (w .events) e (w .bytes) kind value;

@@ -49,12 +49,15 @@ pub record Reached (g : Geometry) (P : Target → Type 0) : Type 0 where
   pub sizes : geometryOf page ≡ g
   pub holds : P (after page flags events (poweredUp page device array registers counts) .target)
 
--- a run that leaves this sequence, this output
+-- a run that leaves this sequence, this output, this output kept behind a status
 abbrev pub Stands : Geometry → Sequence → Type 0
 Stands g s = Reached g (λ t. t .decoder .sequence ≡ s)
 
 abbrev pub Shows : Geometry → Output → Type 0
 Shows g o = Reached g (λ t. t .decoder .output ≡ o)
+
+abbrev pub Keeps : Geometry → Output → Type 0
+Keeps g o = Reached g (λ t. t .decoder .kept ≡ o)
 
 -- a run that leaves a sequence of the same shape with the same value there, whatever stands beside it
 pub record Leaves {K A : Type 0} (g : Geometry) (shape : K → Sequence) (value : K → A) (k : K) : Type 0 where
@@ -86,15 +89,23 @@ SequenceGiven g (Moving k) =
     × Leaves {A = First × ℕ} g Moving (λ j. (j .first, j .low)) k
 SequenceGiven g (Setting k) = Leaves g Setting (λ j. j .got) k × Leaves g Setting (λ j. j .value) k
 
+-- each number of an output is given by a run that leaves it: a register's LUN and its column each by one of its own
+abbrev pub EachGiven : (Output → Type 0) → Output → Type 0
+EachGiven Leaving output.Nothing = Leaving output.Nothing
+EachGiven Leaving (output.Register l c) =
+    ((d : Column) × Leaving (output.Register l d)) × ((k : ℕ) × Leaving (output.Register k c))
+EachGiven Leaving (output.Parameters at) = Leaving (output.Parameters at)
+EachGiven Leaving (output.Status l) = Leaving (output.Status l)
+EachGiven Leaving (output.Ids at) = Leaving (output.Ids at)
+EachGiven Leaving (output.Signature at) = Leaving (output.Signature at)
+EachGiven Leaving (output.Feature at) = Leaving (output.Feature at)
+
 abbrev pub OutputGiven : Geometry → Output → Type 0
-OutputGiven g output.Nothing = Shows g output.Nothing
-OutputGiven g (output.Register l c) =
-    ((d : Column) × Shows g (output.Register l d)) × ((k : ℕ) × Shows g (output.Register k c))
-OutputGiven g (output.Parameters at) = Shows g (output.Parameters at)
-OutputGiven g (output.Status l) = Shows g (output.Status l)
-OutputGiven g (output.Ids at) = Shows g (output.Ids at)
-OutputGiven g (output.Signature at) = Shows g (output.Signature at)
-OutputGiven g (output.Feature at) = Shows g (output.Feature at)
+OutputGiven g o = EachGiven (Shows g) o
+
+-- no run keeps a status, so that none is given here
+abbrev pub KeptGiven : Geometry → Output → Type 0
+KeptGiven g o = EachGiven (Keeps g) o
 
 -- each number of a record is given by a run with its geometry, data and spare bytes among its sizes; there are four LUN
 -- records
@@ -113,6 +124,7 @@ pub record Given (t : Target) : Type 0 where
   pub copyback : (l : ℕ) → l < 4 → Reached (t .geometry) (λ u. copybackAt (u .luns) l ≡ copybackAt (t .luns) l)
   pub sequence : SequenceGiven (t .geometry) (t .decoder .sequence)
   pub output : OutputGiven (t .geometry) (t .decoder .output)
+  pub kept : KeptGiven (t .geometry) (t .decoder .kept)
 
 -- what has come of a half-given address is bytes
 abbrev pub bytesHeld : Sequence → Type 0

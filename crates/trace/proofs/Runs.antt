@@ -19,6 +19,7 @@ use Rattle.target.proofs.Limits.{limits, registers-all}
 use Rattle.target.specs.Pick.{orElse}
 use Rattle.target.specs.Address.{lunOf}
 use Rattle.target.specs.Luns.{works}
+use Rattle.target.specs.Place.{isBare}
 use Rattle.target.specs.Sizes.{pageSize}
 use Rattle.target.specs.Events.{badRecord}
 use Rattle.target.specs.declared.Row.{Row}
@@ -33,7 +34,7 @@ use Rattle.target.specs.declared.Verdict.the-variants.{Accepted}
 use Rattle.target.specs.declared.Work.the-variants as work
 use Rattle.rules.specs.Rules.{beforeReset, misplaced, fits, notOffered, lunWorks, pastEnd, verdict}
 use Rattle.rules.proofs.ByKind.{event, in-verdict, out-verdict}
-use Rattle.effects.specs.Effects.{highAfter, clearAfter, selectedAfter, lunsAfter, sequenceAfter, outputAfter, targetAfter, workOf}
+use Rattle.effects.specs.Effects.{highAfter, clearAfter, selectedAfter, lunsAfter, sequenceAfter, outputAfter, keptAfter, targetAfter, workOf}
 use Rattle.step.specs.Usable.{usable, sequenceSound, outputSound}
 use Rattle.step.specs.Buffers.{registersAfter, arrayAfter, countsAfter, outputByte}
 use Rattle.step.specs.Step.{Buffers, Outcome, replyOf, worked, acceptedBy, accepted, byVerdict, steady, stepOf}
@@ -49,9 +50,9 @@ in-passes : (t : Target) (f : Fill) (at v : ℕ) → t .seen ≡ true → at < p
 unfolding orElse beforeReset misplaced fits notOffered pastEnd
 in-passes t f at v seen room = in-verdict (filling t f at) v ∙ rw (seen, lt-leb (pageSize (t .geometry)) at room)
 
-out-passes : (t : Target) (l c : ℕ) → t .seen ≡ true → works (t .luns) l ≡ false → c < pageSize (t .geometry) → verdict (giving t l c) (event 3 0) ≡ Accepted
+out-passes : (t : Target) (l c : ℕ) → t .seen ≡ true → works (t .luns) l ≡ false → isBare (t .decoder .sequence) ≡ false → c < pageSize (t .geometry) → verdict (giving t l c) (event 3 0) ≡ Accepted
 unfolding orElse badRecord beforeReset misplaced fits lunWorks pastEnd
-out-passes t l c seen idle room = out-verdict (giving t l c) 0 ∙ rw (seen, idle, lt-leb (pageSize (t .geometry)) c room)
+out-passes t l c seen idle plain room = out-verdict (giving t l c) 0 ∙ rw (seen, plain, idle, lt-leb (pageSize (t .geometry)) c room)
 
 or-false : (b : Bool) → (b || false) ≡ b
 or-false true = refl
@@ -64,20 +65,20 @@ module _ (params flags : List ℕ) (b : Buffers) where
   in-step : (t : Target) (f : Fill) (at v : ℕ) → Fit (filling t f at) → t .seen ≡ true → at < pageSize (t .geometry)
       → stepOf (filling t f at) (event 2 v) params b flags
       ≡ record { reply = reply.Accepted; target = filling t f (at + 1); buffers = record { array = b .array; registers = registersAfter (t .geometry) (work.Put (lunOf (t .geometry) (f .row)) (record { 0 = at }) v) (b .array) (b .registers); counts = b .counts } }
-  unfolding steady byVerdict accepted acceptedBy replyOf worked workOf arrayAfter countsAfter targetAfter highAfter clearAfter selectedAfter lunsAfter sequenceAfter outputAfter
+  unfolding steady byVerdict accepted acceptedBy replyOf worked workOf arrayAfter countsAfter targetAfter highAfter clearAfter selectedAfter lunsAfter sequenceAfter outputAfter keptAfter
   in-step t f at v fit seen room =
       step-steady (filling t f at) (event 2 v) params b flags fit
       ∙ ap (λ x. byVerdict x (filling t f at) (event 2 v) params b flags) (in-passes t f at v seen room)
-      ∙ (λ j. record { reply = reply.Accepted; target = decoding t (or-false (t .seen) j) (record { sequence = fillingAt f (at + 1); output = t .decoder .output }); buffers = record { array = b .array; registers = registersAfter (t .geometry) (work.Put (lunOf (t .geometry) (f .row)) (record { 0 = at }) v) (b .array) (b .registers); counts = b .counts } })
+      ∙ (λ j. record { reply = reply.Accepted; target = decoding t (or-false (t .seen) j) (record { sequence = fillingAt f (at + 1); output = t .decoder .output; kept = t .decoder .kept }); buffers = record { array = b .array; registers = registersAfter (t .geometry) (work.Put (lunOf (t .geometry) (f .row)) (record { 0 = at }) v) (b .array) (b .registers); counts = b .counts } })
 
-  out-step : (t : Target) (l c : ℕ) → Fit (giving t l c) → t .seen ≡ true → works (t .luns) l ≡ false → c < pageSize (t .geometry)
+  out-step : (t : Target) (l c : ℕ) → Fit (giving t l c) → t .seen ≡ true → works (t .luns) l ≡ false → isBare (t .decoder .sequence) ≡ false → c < pageSize (t .geometry)
       → stepOf (giving t l c) (event 3 0) params b flags
       ≡ record { reply = reply.Byte (getD (b .registers) (l * pageSize (t .geometry) + c) 0); target = giving t l (c + 1); buffers = b }
-  unfolding steady byVerdict accepted acceptedBy replyOf outputByte worked workOf arrayAfter registersAfter countsAfter targetAfter highAfter clearAfter selectedAfter lunsAfter sequenceAfter outputAfter
-  out-step t l c fit seen idle room =
+  unfolding steady byVerdict accepted acceptedBy replyOf outputByte worked workOf arrayAfter registersAfter countsAfter targetAfter highAfter clearAfter selectedAfter lunsAfter sequenceAfter outputAfter keptAfter
+  out-step t l c fit seen idle plain room =
       step-steady (giving t l c) (event 3 0) params b flags fit
-      ∙ ap (λ x. byVerdict x (giving t l c) (event 3 0) params b flags) (out-passes t l c seen idle room)
-      ∙ (λ j. record { reply = reply.Byte (getD (b .registers) (l * pageSize (t .geometry) + c) 0); target = decoding t (or-false (t .seen) j) (record { sequence = t .decoder .sequence; output = registerAt l (c + 1) }); buffers = b })
+      ∙ ap (λ x. byVerdict x (giving t l c) (event 3 0) params b flags) (out-passes t l c seen idle plain room)
+      ∙ rw (plain) (λ j. record { reply = reply.Byte (getD (b .registers) (l * pageSize (t .geometry) + c) 0); target = decoding t (or-false (t .seen) j) (record { sequence = t .decoder .sequence; output = registerAt l (c + 1); kept = t .decoder .kept }); buffers = b })
 
 -- a data record as an event
 in-event : (records : List ℕ) (j : ℕ) → isData false records j ≡ true → eventAt records j ≡ event 2 (getD records (2 * j + 1) 0)
@@ -158,7 +159,7 @@ module _ (params flags records : List ℕ) (t : Target) (i : ℕ) (b : Buffers) 
         )
 
   -- after k data-out cycles
-  module _ (l c : ℕ) (idle : works (t .luns) l ≡ false) where
+  module _ (l c : ℕ) (idle : works (t .luns) l ≡ false) (plain : isBare (t .decoder .sequence) ≡ false) where
     abbrev pub outAfter : ℕ → Running
     outAfter k = record { target = giving t l (c + k); done = i + k; buffers = b; room = givenOut (b .registers) i (l * pageSize (t .geometry) + c) k room }
 
@@ -171,7 +172,7 @@ module _ (params flags records : List ℕ) (t : Target) (i : ℕ) (b : Buffers) 
         let place : l * pageSize (t .geometry) + c + k ≡ l * pageSize (t .geometry) + (c + k) = omega arith in
         (λ x. record { target = giving t l (up x); done = on x; buffers = b; room = written (givenOut (b .registers) i (l * pageSize (t .geometry) + c) k room) (i + k) (reply.Byte (getD (b .registers) (place x) 0)) })
         ∙ sym (ap (λ (o : Outcome). record { target = o .target; done = i + k + 1; buffers = o .buffers; room = written (givenOut (b .registers) i (l * pageSize (t .geometry) + c) k room) (i + k) (o .reply) })
-        (out-step params flags b t l (c + k) fit seen idle here))
+        (out-step params flags b t l (c + k) fit seen idle plain here))
         ∙ ap (oneMore params flags (outAfter k)) (sym (out-event records (i + k) data-out))
 
     pub out-run : (k : ℕ) (z : Running) → c + k ≤ pageSize (t .geometry) → 2 * (i + k) ≤ length records → AllData true records i k → standsUsable params flags (outAfter 0) ≡ true
@@ -227,7 +228,7 @@ module _ (params flags records array registers counts room : List ℕ) (t : Targ
       in-zero =
           let up : f .at .0 ≡ f .at .0 + 0 = omega arith in
           let on : i ≡ i + 0 = omega arith in
-          (λ x. standing (decoding t (t .seen) (record { sequence = e x; output = t .decoder .output })) i array registers counts room)
+          (λ x. standing (decoding t (t .seen) (record { sequence = e x; output = t .decoder .output; kept = t .decoder .kept })) i array registers counts room)
           ∙ (λ x. standing (filling t f (up x)) (on x) array registers counts room)
 
       pub filled-on : (k : ℕ) (next : Target) (put told : List ℕ) → f .at .0 + k ≤ pageSize (t .geometry) → 2 * (i + k) ≤ length records → AllData false records i k → next ≡ filling t f (f .at .0 + k)
@@ -241,21 +242,21 @@ module _ (params flags records array registers counts room : List ℕ) (t : Targ
           let end : standing next (i + k) array put counts told ≡ inAfter params flags records t i held room seen f (f .at .0) k = (λ x. standing (is x) (i + k) array (took x .registers) counts (took x .room)) in
           record { within = upto; fit = ap (standsUsable params flags) end ∙ after .0 ∙ sym fit; rest = ap (ranAll params flags (drop (i + k) (eventsOf records))) end ∙ after .1 }
 
-    module _ (l : ℕ) (c : Column) (e : t .decoder .output ≡ output.Register l c) (idle : works (t .luns) l ≡ false) where
-      out-zero : now ≡ outAfter params flags records t i held room seen l (c .0) idle 0
+    module _ (l : ℕ) (c : Column) (e : t .decoder .output ≡ output.Register l c) (idle : works (t .luns) l ≡ false) (plain : isBare (t .decoder .sequence) ≡ false) where
+      out-zero : now ≡ outAfter params flags records t i held room seen l (c .0) idle plain 0
       unfolding givenOut
       out-zero =
           let up : c .0 ≡ c .0 + 0 = omega arith in
           let on : i ≡ i + 0 = omega arith in
-          (λ x. standing (decoding t (t .seen) (record { sequence = t .decoder .sequence; output = e x })) i array registers counts room)
+          (λ x. standing (decoding t (t .seen) (record { sequence = t .decoder .sequence; output = e x; kept = t .decoder .kept })) i array registers counts room)
           ∙ (λ x. standing (giving t l (up x)) (on x) array registers counts room)
 
       pub given-on : (k : ℕ) (next : Target) (told : List ℕ) → c .0 + k ≤ pageSize (t .geometry) → 2 * (i + k) ≤ length records → AllData true records i k → next ≡ giving t l (c .0 + k)
           → told ≡ givenOut registers i (l * pageSize (t .geometry) + c .0) k room → Carried params flags records array counts t i registers room next (i + k) registers told
       unfolding standsUsable
       given-on k next told fits upto all is gave =
-          let before : ranAll params flags (drop (i + 0) (eventsOf records)) (outAfter params flags records t i held room seen l (c .0) idle 0) ≡ ranAll params flags (drop i (eventsOf records)) now
-          = (let on : i + 0 ≡ i = omega arith in ap (λ (n : ℕ). ranAll params flags (drop n (eventsOf records)) (outAfter params flags records t i held room seen l (c .0) idle 0)) on ∙ ap (ranAll params flags (drop i (eventsOf records))) (sym out-zero)) in
-          let after = out-run params flags records t i held room seen l (c .0) idle k _ fits upto all (ap (standsUsable params flags) (sym out-zero) ∙ fit) before in
-          let end : standing next (i + k) array registers counts told ≡ outAfter params flags records t i held room seen l (c .0) idle k = (λ x. standing (is x) (i + k) array registers counts (gave x)) in
+          let before : ranAll params flags (drop (i + 0) (eventsOf records)) (outAfter params flags records t i held room seen l (c .0) idle plain 0) ≡ ranAll params flags (drop i (eventsOf records)) now
+          = (let on : i + 0 ≡ i = omega arith in ap (λ (n : ℕ). ranAll params flags (drop n (eventsOf records)) (outAfter params flags records t i held room seen l (c .0) idle plain 0)) on ∙ ap (ranAll params flags (drop i (eventsOf records))) (sym out-zero)) in
+          let after = out-run params flags records t i held room seen l (c .0) idle plain k _ fits upto all (ap (standsUsable params flags) (sym out-zero) ∙ fit) before in
+          let end : standing next (i + k) array registers counts told ≡ outAfter params flags records t i held room seen l (c .0) idle plain k = (λ x. standing (is x) (i + k) array registers counts (gave x)) in
           record { within = upto; fit = ap (standsUsable params flags) end ∙ after .0 ∙ sym fit; rest = ap (ranAll params flags (drop (i + k) (eventsOf records))) end ∙ after .1 }

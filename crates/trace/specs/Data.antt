@@ -49,10 +49,10 @@ registerAt l c = output.Register l (record { 0 = c })
 
 -- the record at that place
 abbrev pub filling : Target → Fill → ℕ → Target
-filling t f at = decoding t (t .seen) (record { sequence = fillingAt f at; output = t .decoder .output })
+filling t f at = decoding t (t .seen) (record { sequence = fillingAt f at; output = t .decoder .output; kept = t .decoder .kept })
 
 abbrev pub giving : Target → ℕ → ℕ → Target
-giving t l c = decoding t (t .seen) (record { sequence = t .decoder .sequence; output = registerAt l c })
+giving t l c = decoding t (t .seen) (record { sequence = t .decoder .sequence; output = registerAt l c; kept = t .decoder .kept })
 
 -- registers and replies after k data-in cycles, the first of them record i, into the register that starts at `base`, from `at` on
 pub record Taking : Type 0 where

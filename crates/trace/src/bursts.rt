@@ -11,6 +11,7 @@ use target::Reply;
 use target::Sequence;
 use target::Target;
 use target::address::lun_of;
+use target::place::is_bare;
 use target::records::works;
 use target::sizes::page_size;
 ghost use mathlib.Core.Path.{_≡_};
@@ -19,6 +20,7 @@ ghost use Prim.Native.Nat.{_+_, _*_, _≤_, _<_, min};
 ghost use lib.ListN.{length, getD};
 ghost use lib.Dec.{eqb, ltb};
 ghost use Rattle.target.specs.Luns.{works};
+ghost use Rattle.target.specs.Place.{isBare};
 ghost use Rattle.target.specs.declared.Sequence.the-variants as sequence;
 ghost use Rattle.target.specs.declared.Output.the-variants as output;
 ghost use Rattle.step.specs.Usable.{usable};
@@ -178,7 +180,7 @@ fn give_burst(
     flags: &[u8],
 ) -> Carry
     requires { ⌜ usable t (length (now params)) (length (now array)) (length (now registers)) (length (now counts)) (length (now flags)) ≡ true ⌝ }
-    requires { ⌜ (t .seen ≡ true) × (t .decoder .output ≡ output.Register lun column) × (works (t .luns) lun ≡ false) ⌝ }
+    requires { ⌜ (t .seen ≡ true) × (t .decoder .output ≡ output.Register lun column) × (works (t .luns) lun ≡ false) × (isBare (t .decoder .sequence) ≡ false) ⌝ }
     requires { ⌜ (2 * i ≤ length (now records)) × (length (now records) ≤ length (now room)) ⌝ }
     ensures { λ r. ⌜ Carried (now (params .entry)) (now (flags .entry)) (now (records .entry)) (now (array .entry)) (now (counts .entry)) t i (now (registers .entry)) (now (room .entry))
         (r .target) (i + r .count) (now (registers .entry)) (now (room .exit)) ⌝ }
@@ -236,7 +238,8 @@ pub fn burst(
         match o {
             Output::Register { lun, column } => {
                 let luns = t.luns;
-                if !works(luns, lun) {
+                // after a bare 00h the kept output comes out, not this one
+                if !works(luns, lun) & !is_bare(s) {
                     return give_burst(
                         t,
                         lun,

@@ -7,9 +7,11 @@ use lib.Dec.{eqb, leb}
 use Rattle.slices.specs.Cells.{part}
 use Rattle.target.specs.Pick.{pick}
 use Rattle.target.specs.Luns.{works}
+use Rattle.target.specs.Place.{isBare}
 use Rattle.target.specs.Sizes.{pageSize}
 use Rattle.target.specs.declared.Geometry.{Geometry}
 use Rattle.target.specs.declared.Lun.{Lun}
+use Rattle.target.specs.declared.Decoder.{Decoder}
 use Rattle.target.specs.declared.Target.{Target}
 use Rattle.target.specs.declared.Output.{Output}
 use Rattle.target.specs.declared.Output.the-variants as output
@@ -40,9 +42,13 @@ unreadIn g luns (output.Ids at) = empty
 unreadIn g luns (output.Signature at) = empty
 unreadIn g luns (output.Feature at) = empty
 
+-- after a bare 00h the present output is none until the data out that goes on from the one that was kept, since an address may come
+abbrev pub present : Decoder → Output
+present d = pick (isBare (d .sequence)) output.Nothing (d .output)
+
 -- where 13 holds the part is empty
 unfoldable pub unreadOf : Target → ℕ → ℕ → Unread
-unreadOf t params registers = pick (readable t params registers) (unreadIn (t .geometry) (t .luns) (t .decoder .output)) empty
+unreadOf t params registers = pick (readable t params registers) (unreadIn (t .geometry) (t .luns) (present (t .decoder))) empty
 
 -- the bytes of that part
 abbrev pub bytesIn : Source → ℕ → ℕ → List ℕ → List ℕ → List ℕ

@@ -1,18 +1,21 @@
 // The unread rest of the present output: a part of one of two lent slices, returned.
+use slices::part_of;
 use step::usable::record_sound;
+use target::Decoder;
 use target::Geometry;
 use target::Luns;
 use target::Output;
 use target::Target;
+use target::picks::pick_output;
+use target::place::is_bare;
 use target::records::works;
 use target::sizes::page_size;
 ghost use mathlib.Core.Path.{_≡_};
 ghost use mathlib.Core.Bool.{true};
-ghost use Rattle.slices.specs.Cells.{part};
 ghost use Rattle.target.specs.Pick.{pick};
 ghost use Rattle.target.specs.Sizes.{inLimits};
 ghost use Rattle.step.specs.Usable.{outputSound};
-ghost use Rattle.unread.specs.Rest.{empty, readable, unreadIn, unreadOf, restOf};
+ghost use Rattle.unread.specs.Rest.{empty, present, readable, unreadIn, unreadOf, restOf};
 
 // Which lent buffer a part is of.
 pub enum Source {
@@ -86,6 +89,15 @@ fn unread_in(g: Geometry, luns: Luns, o: Output) -> Unread
     }
 }
 
+// What is put out now; after a bare 00h an address may come yet.
+fn present(d: Decoder) -> Output
+    ensures { λ r. ⌜ r ≡ present d ⌝ }
+{
+    let s = d.sequence;
+    let o = d.output;
+    pick_output(is_bare(s), Output::Nothing, o)
+}
+
 // Where the unread rest lies, from the lengths of the two buffers.
 pub fn unread_part(t: Target, params: usize, registers: usize) -> Unread
     ensures { λ u. ⌜ u ≡ unreadOf t params registers ⌝ }
@@ -96,21 +108,7 @@ pub fn unread_part(t: Target, params: usize, registers: usize) -> Unread
     let g = t.geometry;
     let luns = t.luns;
     let d = t.decoder;
-    let o = d.output;
-    unread_in(g, luns, o)
-}
-
-// The `count` bytes from `at` on, as many as there are.
-pub fn part_of(s: &[u8], at: usize, count: usize) -> &[u8]
-    ensures { λ r. ⌜ now r ≡ part (now (s .entry)) at count ⌝ }
-{
-    if s.len() <= at {
-        return &s[..0];
-    }
-    if s.len() - at <= count {
-        return &s[at..];
-    }
-    &s[at..at + count]
+    unread_in(g, luns, present(d))
 }
 
 // The unread rest itself.

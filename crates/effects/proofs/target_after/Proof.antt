@@ -11,6 +11,9 @@ sequence-after-requires c κs = search needs
 output-after-requires : tie.Need-output-after-requires
 output-after-requires c κs = search needs
 
+kept-after-requires : tie.Need-kept-after-requires
+kept-after-requires c κs = search needs
+
 luns-after-requires : tie.Need-luns-after-requires
 luns-after-requires c κs = search needs
 
@@ -36,14 +39,16 @@ returns c =
     let c8 = c7 .before in
     let c9 = c8 .before in
     let c10 = c9 .before in
+    let c11 = c10 .before in
     rw (
       c3 .selected-after .ensures,
       c5 .is-reset .ensures,
       c6 .clear-after .ensures,
       c7 .high-after .ensures,
       c8 .luns-after .ensures,
-      c9 .output-after .ensures,
-      c10 .sequence-after .ensures,
+      c9 .kept-after .ensures,
+      c10 .output-after .ensures,
+      c11 .sequence-after .ensures,
     )
 
 pub target-after-spec : {M : Type 1} → statement M
@@ -52,6 +57,7 @@ target-after-spec =
     (tie.spec
     sequence-after-requires
     output-after-requires
+    kept-after-requires
     luns-after-requires
     high-after-requires
     clear-after-requires

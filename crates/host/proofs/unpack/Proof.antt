@@ -20,6 +20,12 @@ place-in-requires c κs = search needs
 to-output-requires : tie.Need-to-output-requires
 to-output-requires c κs = search needs
 
+kept-in-requires : tie.Need-kept-in-requires
+kept-in-requires c κs = search needs
+
+to-output-requires-2 : tie.Need-to-output-requires-2
+to-output-requires-2 c κs = search needs
+
 is-set-requires : tie.Need-is-set-requires
 is-set-requires c κs = search needs
 
@@ -43,16 +49,20 @@ returns c =
     let c6 = c5 .before in
     let c7 = c6 .before in
     let c8 = c7 .before in
+    let c9 = c8 .before in
+    let c10 = c9 .before in
     rw (
       c .is-set4 .ensures,
       c1 .is-set3 .ensures,
       c2 .is-set2 .ensures,
       c3 .is-set .ensures,
-      c4 .to-output .ensures,
-      c5 .place-in .ensures,
-      c6 .to-sequence .ensures,
-      c7 .cycles-in .ensures,
-      c8 .to-luns .ensures,
+      c4 .to-output2 .ensures,
+      c5 .kept-in .ensures,
+      c6 .to-output .ensures,
+      c7 .place-in .ensures,
+      c8 .to-sequence .ensures,
+      c9 .cycles-in .ensures,
+      c10 .to-luns .ensures,
     )
 
 pub unpack-spec : {M : Type 1} → statement M
@@ -64,6 +74,8 @@ unpack-spec =
     to-sequence-requires
     place-in-requires
     to-output-requires
+    kept-in-requires
+    to-output-requires-2
     is-set-requires
     is-set-requires-2
     is-set-requires-3

@@ -10,8 +10,8 @@ enum-told c = search needs
 enum-known-k : tie.Need-enum-known-k
 enum-known-k c = search needs
 
-page-size-requires : tie.Need-page-size-requires
-page-size-requires c κs = search needs
+column-end-requires : tie.Need-column-end-requires
+column-end-requires c κs = search needs
 
 enum-known-k-2 : tie.Need-enum-known-k-2
 enum-known-k-2 c = search needs
@@ -33,7 +33,7 @@ returns-2 c =
     let c1 = c .before in
     let c4 = c1 .before .before .before in
     rw (
-      c1 .page-size .ensures,
+      c1 .column-end .ensures,
       c4 .k .given .1,
     )
 
@@ -59,7 +59,7 @@ beyond-spec =
     (tie.spec
     enum-told
     enum-known-k
-    page-size-requires
+    column-end-requires
     enum-known-k-2
     row-fits-requires
     enum-known-k-3

@@ -16,7 +16,7 @@ returns c =
     let c1 = c .before in
     rw (
       c .takes-command .ensures,
-      c1 .if1 .taken,
+      eq-eqb _ _ (c1 .if1 .taken),
     )
 
 takes-address-requires : tie.Need-takes-address-requires
@@ -49,6 +49,9 @@ returns-3 c =
       ne-eqb _ _ (c5 .if1 .left),
     )
 
+put-out-requires : tie.Need-put-out-requires
+put-out-requires c κs = search needs
+
 has-output-requires : tie.Need-has-output-requires
 has-output-requires c κs = search needs
 
@@ -56,13 +59,15 @@ returns-4 : tie.Need-returns-4
 unfolding fits
 returns-4 c =
     let c1 = c .before in
-    let c3 = c1 .before .before in
-    let c5 = c3 .before .before in
+    let c2 = c1 .before in
+    let c4 = c2 .before .before in
+    let c6 = c4 .before .before in
     rw (
       c .has-output .ensures,
-      ne-eqb _ _ (c1 .if3 .left),
-      ne-eqb _ _ (c3 .if2 .left),
-      ne-eqb _ _ (c5 .if1 .left),
+      c1 .put-out .ensures,
+      ne-eqb _ _ (c2 .if3 .left),
+      ne-eqb _ _ (c4 .if2 .left),
+      ne-eqb _ _ (c6 .if1 .left),
     )
 
 pub fits-spec : {M : Type 1} → statement M
@@ -75,5 +80,6 @@ fits-spec =
     returns-2
     takes-data-requires
     returns-3
+    put-out-requires
     has-output-requires
     returns-4)

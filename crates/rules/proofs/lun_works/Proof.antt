@@ -11,20 +11,31 @@ completed-requires c κs = search needs
 names-working-requires : tie.Need-names-working-requires
 names-working-requires c κs = search needs
 
+put-out-requires : tie.Need-put-out-requires
+put-out-requires c κs = search needs
+
 output-works-requires : tie.Need-output-works-requires
 output-works-requires c κs = search needs
 
 returns : tie.Need-returns
 unfolding lunWorks
 returns c =
-    let c2 = c .before .before in
-    let c3 = c2 .before in
+    let c1 = c .before in
+    let c3 = c1 .before .before in
+    let c4 = c3 .before in
     rw (
       c .output-works .ensures,
-      c2 .names-working .ensures,
-      c3 .completed .ensures,
+      c1 .put-out .ensures,
+      c3 .names-working .ensures,
+      c4 .completed .ensures,
     )
 
 pub lun-works-spec : {M : Type 1} → statement M
 lun-works-spec =
-    tie.close (tie.spec completed-requires names-working-requires output-works-requires returns)
+    tie.close
+    (tie.spec
+    completed-requires
+    names-working-requires
+    put-out-requires
+    output-works-requires
+    returns)

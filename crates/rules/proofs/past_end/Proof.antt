@@ -11,20 +11,26 @@ taking-requires c κs = search needs
 data-ended-requires : tie.Need-data-ended-requires
 data-ended-requires c κs = search needs
 
+put-out-requires : tie.Need-put-out-requires
+put-out-requires c κs = search needs
+
 output-ended-requires : tie.Need-output-ended-requires
 output-ended-requires c κs = search needs
 
 returns : tie.Need-returns
 unfolding pastEnd
 returns c =
-    let c2 = c .before .before in
-    let c3 = c2 .before in
+    let c1 = c .before in
+    let c3 = c1 .before .before in
+    let c4 = c3 .before in
     rw (
       c .output-ended .ensures,
-      c2 .data-ended .ensures,
-      c3 .taking .ensures,
+      c1 .put-out .ensures,
+      c3 .data-ended .ensures,
+      c4 .taking .ensures,
     )
 
 pub past-end-spec : {M : Type 1} → statement M
 past-end-spec =
-    tie.close (tie.spec taking-requires data-ended-requires output-ended-requires returns)
+    tie.close
+    (tie.spec taking-requires data-ended-requires put-out-requires output-ended-requires returns)

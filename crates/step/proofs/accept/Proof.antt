@@ -9,7 +9,7 @@ use Rattle.step.proofs.accept.Tie as tie
 
 findings-requires : tie.Need-findings-requires
 findings-requires c κs =
-    let ok = sound _ (c .before .before .before .before .before .before .before .before .pre .0) in
+    let ok = sound _ (c .before .before .before .before .before .before .before .before .before .pre .0) in
     (ok .limited, ok .sequence)
 
 reply-of-requires : tie.Need-reply-of-requires
@@ -21,7 +21,7 @@ work-of-requires c κs = search needs
 perform-requires : tie.Need-perform-requires
 perform-requires c κs =
     let c3 = c .before .before .before in
-    let start = c3 .before .before .before .before .before .before .before .before .before .before .before .before in
+    let start = c3 .before .before .before .before .before .before .before .before .before .before .before .before .before in
     let a = start .args in
     let p = start .pre in
     let ready = work-ready (a .t) (a .e) (a .counts .now) (a .flags .now) (p .0) (p .1 .0) (c3 .before .before .before .findings .result) (c3 .before .before .before .findings .ensures) in
@@ -29,7 +29,7 @@ perform-requires c κs =
 
 target-after-requires : tie.Need-target-after-requires
 target-after-requires c κs =
-    let start = c .before .before .before .before .before .before .before .before .before .before .before .before .before .before .before .before .before .before .before .before .before .before in
+    let start = c .before .before .before .before .before .before .before .before .before .before .before .before .before .before .before .before .before .before .before .before .before .before .before in
     places-small _ (start .pre .0)
 
 same-length : tie.Need-same-length

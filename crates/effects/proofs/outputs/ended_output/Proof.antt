@@ -13,8 +13,8 @@ enum-known-k c = search needs
 second-row-requires : tie.Need-second-row-requires
 second-row-requires c κs = search needs
 
-ended-lun-requires : tie.Need-ended-lun-requires
-ended-lun-requires c κs = search needs
+ended-place-requires : tie.Need-ended-place-requires
+ended-place-requires c κs = search needs
 
 pick-output-requires : tie.Need-pick-output-requires
 pick-output-requires c κs = search needs
@@ -26,12 +26,12 @@ returns-2 : tie.Need-returns-2
 returns-2 c =
     let c1 = c .before in
     let c2 = c1 .before in
-    let c5 = c2 .before .before .before in
+    let c4 = c2 .before .before in
     rw (
       c .pick-output .ensures,
-      c1 .ended-lun .ensures,
+      c1 .ended-place .ensures,
       c2 .second-row .ensures,
-      c5 .k .given .1,
+      c4 .k .given .1,
     )
 
 pub ended-output-spec : {M : Type 1} → statement M
@@ -41,7 +41,7 @@ ended-output-spec =
     enum-told
     enum-known-k
     second-row-requires
-    ended-lun-requires
+    ended-place-requires
     pick-output-requires
     returns
     returns-2)

@@ -58,24 +58,30 @@ returns-3 c =
       ne-eqb _ _ (c4 .if2 .left),
     )
 
+put-out-requires : tie.Need-put-out-requires
+put-out-requires c κs = search needs
+
 advanced-requires : tie.Need-advanced-requires
-advanced-requires c κs = search needs
+advanced-requires c κs =
+    rw (c .put-out .ensures) (c .before .before .before .before .before .before .before .before .before .pre)
 
 returns-4 : tie.Need-returns-4
 unfolding outputAfter
 returns-4 c =
     let c1 = c .before in
-    let c3 = c1 .before .before in
-    let c5 = c3 .before .before in
-    let c7 = c5 .before .before in
-    let c8 = c7 .before in
+    let c2 = c1 .before in
+    let c4 = c2 .before .before in
+    let c6 = c4 .before .before in
+    let c8 = c6 .before .before in
+    let c9 = c8 .before in
     rw (
-      ← c8 .is-reset .ensures,
-      c7 .if1 .left,
+      ← c9 .is-reset .ensures,
+      c8 .if1 .left,
       c .advanced .ensures,
-      eq-eqb _ _ (c1 .if4 .taken),
-      ne-eqb _ _ (c3 .if3 .left),
-      ne-eqb _ _ (c5 .if2 .left),
+      c1 .put-out .ensures,
+      eq-eqb _ _ (c2 .if4 .taken),
+      ne-eqb _ _ (c4 .if3 .left),
+      ne-eqb _ _ (c6 .if2 .left),
     )
 
 returns-5 : tie.Need-returns-5
@@ -104,6 +110,7 @@ output-after-spec =
     completed-requires
     addressed-output-requires
     returns-3
+    put-out-requires
     advanced-requires
     returns-4
     returns-5)

@@ -25,8 +25,8 @@ returns c =
       c1 .ending .ensures,
     )
 
-first-of-requires : tie.Need-first-of-requires
-first-of-requires c κs = search needs
+first-here-requires : tie.Need-first-here-requires
+first-here-requires c κs = search needs
 
 opened-requires : tie.Need-opened-requires
 opened-requires c κs = search needs
@@ -40,7 +40,7 @@ returns-2 c =
       ← c3 .is-open .ensures,
       c2 .if1 .left,
       c .opened .ensures,
-      c1 .first-of .ensures,
+      c1 .first-here .ensures,
     )
 
 pub commanded-spec : {M : Type 1} → statement M
@@ -51,6 +51,6 @@ commanded-spec =
     ending-requires
     ended-sequence-requires
     returns
-    first-of-requires
+    first-here-requires
     opened-requires
     returns-2)

@@ -79,19 +79,45 @@ returns-4 c =
       ne-eqb _ _ (c6 .if2 .left),
     )
 
+is-bare-requires : tie.Need-is-bare-requires
+is-bare-requires c κs = search needs
+
 returns-5 : tie.Need-returns-5
 unfolding sequenceAfter
 returns-5 c =
-    let c2 = c .before .before in
-    let c4 = c2 .before .before in
-    let c6 = c4 .before .before in
-    let c7 = c6 .before in
+    let c1 = c .before in
+    let c3 = c1 .before .before in
+    let c5 = c3 .before .before in
+    let c7 = c5 .before .before in
+    let c9 = c7 .before .before in
+    let c10 = c9 .before in
     rw (
-      ← c7 .is-reset .ensures,
-      c6 .if1 .left,
-      ne-eqb _ _ (c .if4 .left),
-      ne-eqb _ _ (c2 .if3 .left),
-      ne-eqb _ _ (c4 .if2 .left),
+      ← c1 .is-bare .ensures,
+      c .if5 .taken,
+      ← c10 .is-reset .ensures,
+      c9 .if1 .left,
+      ne-eqb _ _ (c3 .if4 .left),
+      ne-eqb _ _ (c5 .if3 .left),
+      ne-eqb _ _ (c7 .if2 .left),
+    )
+
+returns-6 : tie.Need-returns-6
+unfolding sequenceAfter
+returns-6 c =
+    let c1 = c .before in
+    let c3 = c1 .before .before in
+    let c5 = c3 .before .before in
+    let c7 = c5 .before .before in
+    let c9 = c7 .before .before in
+    let c10 = c9 .before in
+    rw (
+      ← c1 .is-bare .ensures,
+      c .if5 .left,
+      ← c10 .is-reset .ensures,
+      c9 .if1 .left,
+      ne-eqb _ _ (c3 .if4 .left),
+      ne-eqb _ _ (c5 .if3 .left),
+      ne-eqb _ _ (c7 .if2 .left),
     )
 
 pub sequence-after-spec : {M : Type 1} → statement M
@@ -107,4 +133,6 @@ sequence-after-spec =
     taking-requires
     filled-requires
     returns-4
-    returns-5)
+    is-bare-requires
+    returns-5
+    returns-6)

@@ -29,6 +29,13 @@ page-full-requires c κs =
     let there = rw (c .before .enum-told3 .given .1) at (start .pre .1) in
     (start .pre .0, there)
 
+out-of-order-requires : tie.Need-out-of-order-requires
+unfolding Reaches
+out-of-order-requires c κs =
+    let start = c .before .before .before .before .before .before in
+    let there = rw (c .before .before .enum-told3 .given .1) at (start .pre .1) in
+    (start .pre .0, there)
+
 enum-told-4 : tie.Need-enum-told-4
 enum-told-4 c = search needs
 
@@ -52,10 +59,12 @@ returns-3 : tie.Need-returns-3
 returns-3 c =
     let c1 = c .before in
     let c2 = c1 .before in
+    let c3 = c2 .before in
     rw (
-      c .page-full .ensures,
-      c1 .block-bad .ensures,
-      c2 .enum-told3 .given .1,
+      c .out-of-order .ensures,
+      c1 .page-full .ensures,
+      c2 .block-bad .ensures,
+      c3 .enum-told3 .given .1,
     )
 
 returns-4 : tie.Need-returns-4
@@ -78,6 +87,7 @@ proceeds-spec =
     enum-told-3
     block-bad-requires
     page-full-requires
+    out-of-order-requires
     enum-told-4
     block-bad-requires-2
     enum-told-5

@@ -20,19 +20,24 @@ sequence-sound-requires c κs = search needs
 output-sound-requires : tie.Need-output-sound-requires
 output-sound-requires c κs = search needs
 
+kept-sound-requires : tie.Need-kept-sound-requires
+kept-sound-requires c κs = search needs
+
 returns : tie.Need-returns
 unfolding recordSound
 returns c =
     let c1 = c .before in
     let c2 = c1 .before in
-    let c5 = c2 .before .before .before in
-    let c7 = c5 .before .before in
+    let c3 = c2 .before in
+    let c6 = c3 .before .before .before in
+    let c8 = c6 .before .before in
     rw (
-      c .output-sound .ensures,
-      c1 .sequence-sound .ensures,
-      c2 .marks-sound .ensures,
-      c5 .words-sound .ensures,
-      c7 .in-limits .ensures,
+      c .kept-sound .ensures,
+      c1 .output-sound .ensures,
+      c2 .sequence-sound .ensures,
+      c3 .marks-sound .ensures,
+      c6 .words-sound .ensures,
+      c8 .in-limits .ensures,
     )
 
 pub record-sound-spec : {M : Type 1} → statement M
@@ -44,4 +49,5 @@ record-sound-spec =
     marks-sound-requires
     sequence-sound-requires
     output-sound-requires
+    kept-sound-requires
     returns)

@@ -16,6 +16,9 @@ column-from-requires c κs = search needs
 asks-selected-requires : tie.Need-asks-selected-requires
 asks-selected-requires c κs = search needs
 
+in-page-requires : tie.Need-in-page-requires
+in-page-requires c κs = search needs
+
 pick-completed-requires : tie.Need-pick-completed-requires
 pick-completed-requires c κs = search needs
 
@@ -56,12 +59,14 @@ returns-2 : tie.Need-returns-2
 returns-2 c =
     let c2 = c .before .before in
     let c3 = c2 .before in
-    let c5 = c3 .before .before in
+    let c4 = c3 .before in
+    let c6 = c4 .before .before in
     rw (
       c .pick-completed .ensures,
-      c2 .asks-selected .ensures,
-      c3 .column-from .ensures,
-      c5 .s .given .1,
+      c2 .in-page .ensures,
+      c3 .asks-selected .ensures,
+      c4 .column-from .ensures,
+      c6 .s .given .1,
     )
 
 returns-3 : tie.Need-returns-3
@@ -106,6 +111,7 @@ completed-spec =
     enum-known-s
     column-from-requires
     asks-selected-requires
+    in-page-requires
     pick-completed-requires
     enum-known-s-2
     row-from-requires

@@ -9,7 +9,7 @@ abbrev Inv-loop : tie.InvT-loop
 Inv-loop g₀ records₀ job₀ g records job = Unit {0}
 
 abbrev μ-loop : tie.MeasureT-loop
-μ-loop g₀ records₀ job₀ g records job = 20 - job
+μ-loop g₀ records₀ job₀ g records job = 25 - job
 
 loop-holds : tie.Need-loop-holds Inv-loop μ-loop
 loop-holds c = tt

@@ -33,11 +33,18 @@ enum-known-o c = search needs
 works-requires : tie.Need-works-requires
 works-requires c κs = search needs
 
+is-bare-requires : tie.Need-is-bare-requires
+is-bare-requires c κs = search needs
+
 give-burst-requires : tie.Need-give-burst-requires
 give-burst-requires c κs =
-    let a = c .before .before .before .before .before .before .before .before .before .before .before .before .before .before .before .before .before .before .before .args in
-    let on = both (a .ok) (a .t .seen) (c .before .before .before .before .before .before .before .before .before .before .if1 .taken) in
-    (sym (c .before .before .before .before .before .before .before .before .before .before .before .before .before .before .before .before .before .before .before .pre .0) ∙ on .0, ((on .1, c .before .before .before .before .before .before .o .given .1, sym (c .before .before .before .works .ensures) ∙ not-true _ (c .before .before .if2 .taken)), c .before .before .before .before .before .before .before .before .before .before .before .before .before .before .before .before .before .before .before .pre .1))
+    let start = c .before .before .before .before .before .before .before .before .before .before .before .before .before .before .before .before .before .before .before .before in
+    let a = start .args in
+    let on = both (a .ok) (a .t .seen) (c .before .before .before .before .before .before .before .before .before .before .before .if1 .taken) in
+    let asked = both _ _ (c .before .before .if2 .taken) in
+    let ready = sym (c .before .before .before .before .works .ensures) ∙ not-true _ (asked .0) in
+    let plain = sym (c .before .before .before .is-bare .ensures) ∙ not-true _ (asked .1) in
+    (sym (start .pre .0) ∙ on .0, ((on .1, c .before .before .before .before .before .before .before .o .given .1, ready, plain), start .pre .1))
 
 same-length-3 : tie.Need-same-length-3
 same-length-3 c = search needs
@@ -50,8 +57,8 @@ returns-2 c = search needs
 
 returns-3 : tie.Need-returns-3
 returns-3 c =
-    let a = c .before .before .before .before .before .before .before .before .before .before .before .before .before .before .before .before .before .args in
-    nothing-on (a .params .now) (a .flags .now) (a .records .now) (a .array .now) (a .registers .now) (a .counts .now) (a .room .now) (a .t) (a .i) (c .before .before .before .before .before .before .before .before .before .before .before .before .before .before .before .before .before .pre .1 .0)
+    let a = c .before .before .before .before .before .before .before .before .before .before .before .before .before .before .before .before .before .before .args in
+    nothing-on (a .params .now) (a .flags .now) (a .records .now) (a .array .now) (a .registers .now) (a .counts .now) (a .room .now) (a .t) (a .i) (c .before .before .before .before .before .before .before .before .before .before .before .before .before .before .before .before .before .before .pre .1 .0)
 
 returns-4 : tie.Need-returns-4
 returns-4 c =
@@ -74,6 +81,7 @@ burst-spec =
     returns
     enum-known-o
     works-requires
+    is-bare-requires
     give-burst-requires
     same-length-3
     same-length-4

@@ -74,7 +74,7 @@ returns c =
     let there = give-room (a .t) (a .params .now) (a .array .now) (a .registers .now) (a .counts .now) (a .flags .now) (start .pre .0) (a .lun) (a .column) (start .pre .1 .0 .1) in
     let few = within-both (length (a .records .now) / 2 - a .i) (size .page-size .result - a .column .0) (c .before .before .before .before .before .before .before .before .lesser .ensures) (c .before .before .before .before .before .before .before .data-run .ensures .0) in
     let ran = c .before .before .before .before .before .before .before .data-run in
-    given-on (a .params .now) (a .flags .now) (a .records .now) (a .array .now) (a .registers .now) (a .counts .now) (a .room .now) (a .t) (a .i) (start .pre .1 .1 .0) (start .pre .0) (start .pre .1 .0 .0) (a .lun) (a .column) (start .pre .1 .0 .1) (start .pre .1 .0 .2) (ran .result) _ _
+    given-on (a .params .now) (a .flags .now) (a .records .now) (a .array .now) (a .registers .now) (a .counts .now) (a .room .now) (a .t) (a .i) (start .pre .1 .1 .0) (start .pre .0) (start .pre .1 .0 .0) (a .lun) (a .column) (start .pre .1 .0 .1) (start .pre .1 .0 .2) (start .pre .1 .0 .3) (ran .result) _ _
     (omega (arith, few .1, there .0, size .page-size .ensures)) (omega (arith, few .0, start .pre .1 .1 .0)) (ran .ensures .1) (c .with-output .ensures)
     (c .before .before .before .before .give-out .ensures
     ∙ ap (λ (n : ℕ). givenOut (a .registers .now) (a .i) (a .lun * n + a .column .0) (ran .result) (a .room .now)) (size .page-size .ensures))

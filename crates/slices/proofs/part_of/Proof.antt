@@ -1,4 +1,4 @@
--- `unread::part_of` meets its contract.
+-- `slices::part_of` meets its contract.
 -- Assumes nothing.
 use mathlib.Core.Path.{sym}
 use Prim.Native.Nat.{_-_, _≤_}
@@ -6,11 +6,11 @@ use native.Mathlib.Nat.{add-sub-cancel-left}
 use native.Mathlib.Omega.{arith}
 use lib.ListN.{length, drop, drop-of-length-le, length-drop}
 use lib.Seq.{take-all, take-nil}
 use Rattle.slices.specs.Cells.{part}
 use mathlib.Core.Path.{refl}
 use borrow.Author.Needs.{needs}
-use Rattle.unread.proofs.part_of.Statement.{statement}
-use Rattle.unread.proofs.part_of.Tie as tie
+use Rattle.slices.proofs.part_of.Statement.{statement}
+use Rattle.slices.proofs.part_of.Tie as tie
 
 slice-aggregate-result : tie.Need-slice-aggregate-result
 slice-aggregate-result c = search needs
