@@ -2,19 +2,15 @@
 -- steps"). Each definition takes only what it reads.
 use Prim.Native.Nat.{ℕ, _+_}
 use mathlib.Core.Bool.{Bool, true, false, _&&_, _||_, not}
-use mathlib.Core.List.{List}
-use lib.ListN.{set}
 use lib.Dec.{eqb}
 use Rattle.target.specs.Pick.{pick}
 use Rattle.target.specs.Address.{columnFrom, rowFrom, lunOf}
-use Rattle.target.specs.Commands.{takesColumn, takesRow, byteOf, cyclesOf, thenOf, givesStatus, inPage, clearsRegister, closesCopyback, needsCopyback, firstOf, secondRow}
+use Rattle.target.specs.Commands.{takesColumn, takesRow, cyclesOf, thenOf, inPage, clearsRegister, firstOf, secondRow}
 use Rattle.target.specs.Views.{completed, taking, ending}
-use Rattle.target.specs.Luns.{lunBegun, lunFinished, lunClosed, lunAt, allReady}
-use Rattle.target.specs.Place.{isOpen, isBare, putOut, firstHere, showsStatus, isRegisterOf}
+use Rattle.target.specs.Place.{isOpen, isBare, putOut, firstHere}
 use Rattle.target.specs.Events.{isBus, isReset, badRecord}
 use Rattle.target.specs.declared.Column.{Column}
 use Rattle.target.specs.declared.Row.{Row}
-use Rattle.target.specs.declared.Lun.{Lun}
 use Rattle.target.specs.declared.Geometry.{Geometry}
 use Rattle.target.specs.declared.Event.{Event}
 use Rattle.target.specs.declared.Decoder.{Decoder}
@@ -37,9 +33,10 @@ use Rattle.target.specs.declared.views.Given.{Given}
 use Rattle.target.specs.declared.views.Given.the-variants as given
 use Rattle.target.specs.declared.views.Taker.{Taker}
 use Rattle.target.specs.declared.views.Taker.the-variants as taker
-use Rattle.target.specs.declared.views.Ended.{Ended}
 use Rattle.target.specs.declared.views.Ender.{Ender}
 use Rattle.target.specs.declared.views.Ender.the-variants as ender
+use Rattle.memory.specs.Memory.{keptAfter}
+use Rattle.lun_records.specs.LunsAfter.{lunsAfter}
 
 -- The sequence.
 
@@ -184,79 +181,6 @@ outputAfter g selected d e =
     (pick (eqb (e .kind) 1) (addressedOutput g (completed (d .sequence) (e .value)) (d .output))
     (pick (eqb (e .kind) 3) (advanced (putOut d))
     (d .output))))
-
--- The memory (document 02, A2).
-
--- what a status keeps: the output that was open before; a second status hands on what the first kept
-abbrev pub remembered : Decoder → Output
-remembered d = pick (showsStatus (d .output)) (d .kept) (d .output)
-
--- 70h and 78h keep it; 00h goes on from it, if a status came before; any other first command loses it
-abbrev pub firstKept : Decoder → FirstFound → Output
-firstKept d first.Nothing = output.Nothing
-firstKept d (first.Found f) =
-    pick (givesStatus f) (remembered d) (pick (eqb (byteOf f) 0x00 && showsStatus (d .output)) (d .kept) output.Nothing)
-
-abbrev pub commandKept : Decoder → ℕ → Output
-commandKept d v = pick (isOpen (d .sequence)) (d .kept) (firstKept d (firstOf v))
-
--- of what 78h holds its row keeps only a page register of the LUN that it names
-abbrev pub rowKept : Geometry → Given → Output → Output
-rowKept g given.Nothing o = o
-rowKept g (given.Column k) o = o
-rowKept g (given.Row k) o =
-    pick (givesStatus (k .first) && not (isRegisterOf (lunOf g (k .row)) o)) output.Nothing o
-rowKept g (given.Single k) o = o
-
--- an address after 00h makes it a plain read
-abbrev pub addressedKept : Geometry → Decoder → ℕ → Output
-addressedKept g d v = pick (isBare (d .sequence)) output.Nothing (rowKept g (completed (d .sequence) v) (d .kept))
-
--- data out after a bare 00h makes the memory plain output again
-unfoldable pub keptAfter : Geometry → Decoder → Event → Output
-keptAfter g d e =
-    pick (isReset e) output.Nothing
-    (pick (eqb (e .kind) 0) (commandKept d (e .value))
-    (pick (eqb (e .kind) 1) (addressedKept g d (e .value))
-    (pick (eqb (e .kind) 3 && isBare (d .sequence)) output.Nothing
-    (d .kept))))
-
--- The LUNs.
-
--- the LUN that the row names works from now on
-abbrev pub begun : Geometry → List Lun → Row → Bool → Bool → Bool → List Lun
-begun g luns r fail opens closes = set luns (lunOf g r) (lunBegun (lunAt luns (lunOf g r)) fail opens closes)
-
--- 30h and D0h close the LUN's copyback, and so does the 10h of a copyback program
-abbrev pub endCloses : Ended → Bool
-endCloses k = secondRow (k .second) .closes || needsCopyback (k .first)
-
--- a LUN works from 30h, 35h, 10h or D0h on; FAIL is 1 where a program or an erase does not proceed, and 0 for a read
-abbrev pub endedLuns : Geometry → List Lun → Ender → Findings → List Lun
-endedLuns g luns ender.Nothing found = luns
-endedLuns g luns (ender.By k) found =
-    pick (secondRow (k .second) .starts) (begun g luns (k .row) (not (found .proceeds)) (secondRow (k .second) .opens) (endCloses k)) luns
-
--- to its finish event
-abbrev pub finished : List Lun → ℕ → List Lun
-finished luns l = set luns l (lunFinished (lunAt luns l))
-
--- 80h's row closes the copyback of the LUN that it names
-abbrev pub addressedLuns : Geometry → List Lun → Given → List Lun
-addressedLuns g luns given.Nothing = luns
-addressedLuns g luns (given.Column k) = luns
-addressedLuns g luns (given.Row k) =
-    pick (closesCopyback (k .first)) (set luns (lunOf g (k .row)) (lunClosed (lunAt luns (lunOf g (k .row))))) luns
-addressedLuns g luns (given.Single k) = luns
-
--- FFh: every LUN ready, FAIL 0, no copyback
-unfoldable pub lunsAfter : Geometry → List Lun → Sequence → Event → Findings → List Lun
-lunsAfter g luns s e found =
-    pick (isReset e) allReady
-    (pick (eqb (e .kind) 0) (endedLuns g luns (ending s (e .value)) found)
-    (pick (eqb (e .kind) 1) (addressedLuns g luns (completed s (e .value)))
-    (pick (eqb (e .kind) 4) (finished luns (e .value))
-    luns)))
 
 -- The rest of the record.
 

@@ -48,9 +48,10 @@ use Rattle.rules.specs.Rules.{exists, rowFits, beyond, dataEnded, outputEnded, 
 use Rattle.rules.proofs.Passed.{Passed, all-passed}
 use Rattle.effects.specs.Effects.{acted, endedWork, firstWork, commandWork, addressWork, dataWork, workOf}
 use Rattle.step.specs.Usable.{columnHeld, rowHeld, sequenceSound, recordSound}
-use Rattle.step.specs.Buffers.{pageIndex, blockBad, pageFull, outOfOrder, proceeds, endedFindings, findings}
+use Rattle.blocks.specs.Blocks.{pageIndex, blockBad, pageFull, outOfOrder}
+use Rattle.step.specs.Buffers.{proceeds, endedFindings, findings}
 use Rattle.step.specs.Step.{Ready, Reaches, EnderReaches}
-use Rattle.step.proofs.Places.{row-lun, row-block}
+use Rattle.blocks.proofs.Places.{row-lun, row-block}
 use Rattle.step.proofs.Sound.{Sound, sound, filling-row}
 
 -- the fields of a row that a command looks at are those that its second command works on

@@ -1,13 +1,12 @@
--- What work does to the lent buffers (document 01, "The steps"; document 02, A4). Pages lie in the array in order of LUN, block, page.
+-- What work does to the lent buffers (document 01, "The steps"). Pages lie in the array in order of LUN, block, page.
 use mathlib.Core.Bool.{Bool, true, false, _&&_, _||_, not}
 use mathlib.Core.List.{List}
-use Prim.Native.Nat.{ℕ, _+_, _-_, _*_, _%_}
+use Prim.Native.Nat.{ℕ, _+_, _*_, _%_}
 use lib.ListN.{length, getD, set, replicate}
-use lib.Dec.{eqb, leb}
-use Rattle.slices.specs.Cells.{splice, part, andBytes, someSet}
+use lib.Dec.{eqb}
+use Rattle.slices.specs.Cells.{splice, part, andBytes}
 use Rattle.target.specs.Pick.{pick}
-use Rattle.target.specs.Words.{hasFeature}
-use Rattle.target.specs.Address.{pageOf, blockOf, lunOf}
+use Rattle.target.specs.Address.{lunOf}
 use Rattle.target.specs.Sizes.{pageSize}
 use Rattle.target.specs.Commands.{secondRow}
 use Rattle.target.specs.Views.{ending}
@@ -28,13 +27,7 @@ use Rattle.target.specs.declared.Output.{Output}
 use Rattle.target.specs.declared.Output.the-variants as output
 use Rattle.target.specs.declared.Work.{Work}
 use Rattle.target.specs.declared.Work.the-variants as work
-
--- the row's block and page, counted over all LUNs
-unfoldable pub blockIndex : Geometry → Row → ℕ
-blockIndex g r = lunOf g r * g .blocks + blockOf g r
-
-unfoldable pub pageIndex : Geometry → Row → ℕ
-pageIndex g r = blockIndex g r * g .pages + pageOf g r
+use Rattle.blocks.specs.Blocks.{blockIndex, pageIndex, blockBad, pageFull, outOfOrder}
 
 -- the page registers after work: FFh, a page of the array, or one byte put at its column
 unfoldable pub registersAfter : Geometry → Work → List ℕ → List ℕ → List ℕ
@@ -70,22 +63,6 @@ countsAfter g (work.Load r) counts = counts
 countsAfter g (work.Put l c v) counts = counts
 countsAfter g (work.Program r) counts = set counts (pageIndex g r) (getD counts (pageIndex g r) 0 + 1)
 countsAfter g (work.Erase r) counts = splice counts (blockIndex g r * g .pages) (g .pages) (replicate (g .pages) 0)
-
--- the block's flag is not 0
-unfoldable pub blockBad : Geometry → Row → List ℕ → Bool
-blockBad g r flags = not (eqb (getD flags (blockIndex g r) 0) 0)
-
--- the page's count is at or above programs a page
-unfoldable pub pageFull : Geometry → Row → List ℕ → Bool
-pageFull g r counts = leb (g .programs) (getD counts (pageIndex g r) 0)
-
--- a higher page of its block has a count above 0
-unfoldable pub higherWritten : Geometry → Row → List ℕ → Bool
-higherWritten g r counts = someSet (part counts (pageIndex g r + 1) (g .pages - (pageOf g r + 1)))
-
--- pages are programmed upward within a block, unless feature bit 2 offers any order (document 02, A4)
-unfoldable pub outOfOrder : Geometry → Words → Row → List ℕ → Bool
-outOfOrder g w r counts = not (hasFeature w 2) && higherWritten g r counts
 
 -- 10h does not proceed on a bad block, on a full page or out of order, D0h not on a bad block; a read always does
 abbrev pub proceeds : Geometry → Words → Act → Row → List ℕ → List ℕ → Bool

@@ -29,7 +29,8 @@ use Rattle.target.specs.declared.Reply.the-variants.{Accepted, Byte, Refused}
 use Rattle.rules.specs.Rules.{verdict}
 use Rattle.effects.specs.Effects.{targetAfter, targetRefused, workOf}
 use Rattle.step.specs.Usable.{usable}
-use Rattle.step.specs.Buffers.{pageIndex, findings, registersAfter, arrayAfter, countsAfter, outputByte}
+use Rattle.blocks.specs.Blocks.{pageIndex}
+use Rattle.step.specs.Buffers.{findings, registersAfter, arrayAfter, countsAfter, outputByte}
 
 -- the lent buffers that an event may change
 pub record Buffers : Type 0 where

@@ -1,4 +1,9 @@
 // Work on the lent buffers: each kind of work is a call of a cell on a part.
+use blocks::block_bad;
+use blocks::block_index;
+use blocks::out_of_order;
+use blocks::page_full;
+use blocks::page_index;
 use slices::and_part;
 use slices::byte_at;
 use slices::copy_part;
@@ -6,7 +11,6 @@ use slices::fill;
 use slices::fill_part;
 use slices::put;
 use slices::put_part;
-use slices::some_set_part;
 use target::Column;
 use target::Event;
 use target::Findings;
@@ -17,10 +21,7 @@ use target::Sequence;
 use target::Target;
 use target::Words;
 use target::Work;
-use target::address::block_of;
 use target::address::lun_of;
-use target::address::page_of;
-use target::bits::has_feature;
 use target::commands::Act;
 use target::commands::second_row;
 use target::picks::pick_byte;
@@ -37,54 +38,9 @@ ghost use Rattle.target.specs.Address.{rowExists, blockExists};
 ghost use Rattle.target.specs.Sizes.{pageSize, inLimits};
 ghost use Rattle.target.specs.declared.Work.the-variants as work;
 ghost use Rattle.step.specs.Usable.{sequenceSound, outputSound};
-ghost use Rattle.step.specs.Buffers.{blockIndex, pageIndex, registersAfter, arrayAfter, countsAfter, blockBad, pageFull, higherWritten, outOfOrder, proceeds, endedFindings, findings, statusOf, outputByte};
+ghost use Rattle.blocks.specs.Blocks.{blockIndex, pageIndex, blockBad, pageFull, higherWritten, outOfOrder};
+ghost use Rattle.step.specs.Buffers.{registersAfter, arrayAfter, countsAfter, proceeds, endedFindings, findings, statusOf, outputByte};
 ghost use Rattle.step.specs.Step.{Sizes, Ready, Reaches, EnderReaches};
-
-pub fn block_index(g: Geometry, r: Row) -> usize
-    requires { ⌜ (inLimits g ≡ true) × (blockExists g r ≡ true) ⌝ }
-    ensures { λ n. ⌜ n ≡ blockIndex g r ⌝ }
-{
-    lun_of(g, r) * g.blocks + block_of(g, r)
-}
-
-pub fn page_index(g: Geometry, r: Row) -> usize
-    requires { ⌜ (inLimits g ≡ true) × (rowExists g r ≡ true) ⌝ }
-    ensures { λ n. ⌜ n ≡ pageIndex g r ⌝ }
-{
-    block_index(g, r) * g.pages + page_of(g, r)
-}
-
-pub fn block_bad(g: Geometry, r: Row, flags: &[u8]) -> bool
-    requires { ⌜ (inLimits g ≡ true) × (blockExists g r ≡ true) ⌝ }
-    ensures { λ b. ⌜ b ≡ blockBad g r (now (flags .entry)) ⌝ }
-{
-    !(byte_at(flags, block_index(g, r)) == 0)
-}
-
-pub fn page_full(g: Geometry, r: Row, counts: &[u8]) -> bool
-    requires { ⌜ (inLimits g ≡ true) × (rowExists g r ≡ true) ⌝ }
-    ensures { λ b. ⌜ b ≡ pageFull g r (now (counts .entry)) ⌝ }
-{
-    let n = byte_at(counts, page_index(g, r)) as usize;
-    g.programs <= n
-}
-
-// A higher page of the block has been programmed since its last erase.
-pub fn higher_written(g: Geometry, r: Row, counts: &[u8]) -> bool
-    requires { ⌜ (inLimits g ≡ true) × (rowExists g r ≡ true) ⌝ }
-    ensures { λ b. ⌜ b ≡ higherWritten g r (now (counts .entry)) ⌝ }
-{
-    let first = page_index(g, r) + 1;
-    some_set_part(counts, first, g.pages - (page_of(g, r) + 1))
-}
-
-// Most parts want a block's pages programmed upward.
-pub fn out_of_order(g: Geometry, w: Words, r: Row, counts: &[u8]) -> bool
-    requires { ⌜ (inLimits g ≡ true) × (rowExists g r ≡ true) ⌝ }
-    ensures { λ b. ⌜ b ≡ outOfOrder g w r (now (counts .entry)) ⌝ }
-{
-    !has_feature(w, 2) & higher_written(g, r, counts)
-}
 
 // A program does not proceed on a bad block, on a full page or out of order, an erase not on a bad block.
 pub fn proceeds(g: Geometry, w: Words, a: Act, r: Row, counts: &[u8], flags: &[u8]) -> bool

@@ -16,9 +16,12 @@ use Rattle.target.specs.declared.Geometry.{Geometry}
 use Rattle.target.proofs.Both.{both}
 use Rattle.page.specs.Crc.{crcBit, crcBits, crcByte, crcFrom, crcOf}
 use Rattle.rules.specs.Rules.{unknown, beforeReset, fits, misplaced, outOfRange, lunWorks, noCopyback, othersBusy, lineLow, pastEnd, notOffered, notWorking, lineHeld, rules, verdict}
-use Rattle.effects.specs.Effects.{sequenceAfter, outputAfter, keptAfter, lunsAfter, selectedAfter, clearAfter, highAfter, targetAfter, targetRefused, workOf}
+use Rattle.effects.specs.Effects.{sequenceAfter, outputAfter, selectedAfter, clearAfter, highAfter, targetAfter, targetRefused, workOf}
+use Rattle.memory.specs.Memory.{keptAfter}
+use Rattle.lun_records.specs.LunsAfter.{lunsAfter}
 use Rattle.step.specs.Usable.{recordSound, usable}
-use Rattle.step.specs.Buffers.{blockIndex, pageIndex, registersAfter, arrayAfter, countsAfter, blockBad, pageFull, higherWritten, outOfOrder, findings, statusOf, outputByte}
+use Rattle.blocks.specs.Blocks.{blockIndex, pageIndex, blockBad, pageFull, higherWritten, outOfOrder}
+use Rattle.step.specs.Buffers.{registersAfter, arrayAfter, countsAfter, findings, statusOf, outputByte}
 use Rattle.step.specs.Step.{replyOf, worked, acceptedBy, accepted, byVerdict, steady, stepOf}
 use Rattle.page.specs.Page.{field, bitOf as pageBit, signed, features, optionalCommands, makerId, dataBytes, spareBytes, pagesABlock, blocksALun, lunCount, addressCycles, programsAPage, storedCrc, crcGood, dataInLimits, spareInLimits, pagesInLimits, blocksInLimits, lunsInLimits, lunsAsFeatured, narrowBus, cyclesAsHouse, programsInLimits, fieldsInLimits}
 use Rattle.power.specs.Power.{geometryOf, wordsOf, poweredOf, wrongLength, unsigned, crcBad, fieldBad, bufferBad, contentBad, orRefused, powerAnswer, powerOf}

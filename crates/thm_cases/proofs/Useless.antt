@@ -7,7 +7,8 @@ use Prim.Native.Nat.{ℕ}
 use lib.Seq.{getD-set-same, getD-set-other}
 use Rattle.target.specs.declared.Event.{Event}
 use Rattle.target.specs.declared.Reply.the-variants as reply
-use Rattle.step.specs.Buffers.{pageIndex, countsAfter}
+use Rattle.blocks.specs.Blocks.{pageIndex}
+use Rattle.step.specs.Buffers.{countsAfter}
 use Rattle.step.specs.Step.{Outcome, stepOf}
 use Rattle.trace.specs.Run.{Running, oneMore, ranAll}
 use Rattle.thm_kept.specs.Kept.{letsPass}

@@ -10,7 +10,7 @@ use Rattle.target.specs.Sizes.{pageSize, sized}
 use Rattle.target.specs.declared.Geometry.{Geometry}
 use Rattle.target.specs.declared.Row.{Row}
 use Rattle.power.specs.Power.{powerNumber}
-use Rattle.step.specs.Buffers.{pageIndex}
+use Rattle.blocks.specs.Blocks.{pageIndex}
 use Rattle.thm_kept.specs.Kept.{letsPass}
 use Rattle.thm_cases.specs.Parts.{Part, t1, t2, t1With, powered, first, run, told}
 

@@ -9,7 +9,8 @@ use Rattle.target.specs.declared.Geometry.{Geometry}
 use Rattle.target.specs.declared.Row.{Row}
 use Rattle.target.specs.declared.Reply.the-variants as reply
 use Rattle.target.specs.declared.Work.the-variants as work
-use Rattle.step.specs.Buffers.{pageIndex, countsAfter}
+use Rattle.blocks.specs.Blocks.{pageIndex}
+use Rattle.step.specs.Buffers.{countsAfter}
 use Rattle.step.specs.Step.{State, stepOf}
 use Rattle.trace.specs.Run.{Running, ranAll, start}
 use Rattle.thm_steps.specs.Steps.{command}

@@ -55,7 +55,8 @@ use Rattle.target.proofs.Limits.{limits}
 use Rattle.rules.specs.Rules.{rules, verdict, unknown, beforeReset, fits, misplaced, othersBusy, isGuarded, lineLow}
 use Rattle.rules.proofs.ByKind.{command-verdict}
 use Rattle.rules.proofs.Passed.{all-passed}
-use Rattle.effects.specs.Effects.{acted, endedWork, firstWork, commandWork, addressWork, dataWork, workOf, targetAfter, targetRefused, lunsAfter}
+use Rattle.effects.specs.Effects.{acted, endedWork, firstWork, commandWork, addressWork, dataWork, workOf, targetAfter, targetRefused}
+use Rattle.lun_records.specs.LunsAfter.{lunsAfter}
 use Rattle.page.specs.Page.{fieldsInLimits}
 use Rattle.power.specs.Power.{geometryOf, poweredOf, unpowered, wrongLength, fieldBad, bufferBad, powerAnswer, powering, powerOf}
 use Rattle.power.specs.declared.PowerRefusal.{PowerRefusal}

@@ -13,9 +13,10 @@ use Rattle.target.specs.Sizes.{pageSize}
 use Rattle.target.specs.declared.Geometry.{Geometry}
 use Rattle.target.specs.declared.Work.{Work}
 use Rattle.target.specs.declared.Work.the-variants as work
-use Rattle.step.specs.Buffers.{blockIndex, pageIndex, registersAfter, arrayAfter, countsAfter}
+use Rattle.blocks.specs.Blocks.{blockIndex, pageIndex}
+use Rattle.step.specs.Buffers.{registersAfter, arrayAfter, countsAfter}
 use Rattle.step.specs.Step.{Sizes, Ready}
-use Rattle.step.proofs.Places.{block-pages-end, block-bytes-end, page-bytes-end, register-end}
+use Rattle.blocks.proofs.Places.{block-pages-end, block-bytes-end, page-bytes-end, register-end}
 
 -- the length of a part, by its name
 pub part-length : (xs : List ℕ) (at n : ℕ) → at + n ≤ length xs → length (part xs at n) ≡ n

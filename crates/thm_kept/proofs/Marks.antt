@@ -24,7 +24,7 @@ use Rattle.target.specs.declared.views.Ender.{Ender}
 use Rattle.target.specs.declared.views.Ender.the-variants as ender
 use Rattle.target.proofs.Both.{both4}
 use Rattle.rules.specs.Rules.{rowFits, beyond}
-use Rattle.effects.specs.Effects.{endedLuns, addressedLuns, lunsAfter}
+use Rattle.lun_records.specs.LunsAfter.{endedLuns, addressedLuns, lunsAfter}
 use Rattle.step.specs.Usable.{sequenceSound, markSound, marksSound}
 use Rattle.thm_kept.proofs.Choice.{by-pick, and-true, or-true}
 use Rattle.thm_kept.proofs.Views.{row-named, Completes, completes, Ending, ends}

@@ -31,7 +31,8 @@ use Rattle.target.specs.declared.views.Ender.{Ender}
 use Rattle.target.specs.declared.views.Ender.the-variants as ender
 use Rattle.target.proofs.Both.{both}
 use Rattle.rules.specs.Rules.{rowFits, beyond, outputEnded}
-use Rattle.effects.specs.Effects.{endedLun, endedPlace, endedOutput, shown, firstOutput, commandOutput, addressedOutput, advanced, outputAfter, remembered, firstKept, commandKept, rowKept, addressedKept, keptAfter, rowSelects, selectedAfter}
+use Rattle.effects.specs.Effects.{endedLun, endedPlace, endedOutput, shown, firstOutput, commandOutput, addressedOutput, advanced, outputAfter, rowSelects, selectedAfter}
+use Rattle.memory.specs.Memory.{remembered, firstKept, commandKept, rowKept, addressedKept, keptAfter}
 use Rattle.step.specs.Usable.{sequenceSound, outputSound, keptSound}
 use Rattle.thm_kept.proofs.Choice.{by-pick, and-true}
 use Rattle.thm_kept.proofs.Views.{row-named, Completes, completes, Ends, Ending, ends}

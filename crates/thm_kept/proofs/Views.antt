@@ -38,7 +38,7 @@ use Rattle.target.proofs.Both.{both, both3}
 use Rattle.rules.specs.Rules.{exists, rowFits}
 use Rattle.effects.specs.Effects.{isMove}
 use Rattle.step.specs.Usable.{columnHeld, rowHeld, sequenceSound}
-use Rattle.step.proofs.Places.{lun-below, block-there, row-lun}
+use Rattle.blocks.proofs.Places.{lun-below, block-there, row-lun}
 use Rattle.thm_kept.proofs.Choice.{by-pick, opposite}
 use Rattle.thm_kept.proofs.Commands.{looksAtLun, looksAtPage, row-looks, data-outside, starts-rowed, never-moves}
 

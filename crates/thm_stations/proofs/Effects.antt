@@ -41,9 +41,12 @@ use Rattle.target.specs.declared.views.Ender.{Ender}
 use Rattle.target.specs.declared.views.Ender.the-variants as ender
 use Rattle.target.proofs.Both.{both}
 use Rattle.rules.specs.Rules.{fits, outputEnded, pastEnd}
-use Rattle.effects.specs.Effects.{sequenceAfter, endedOutput, firstOutput, commandOutput, outputAfter, keptAfter, begun, endCloses, endedLuns, addressedLuns, lunsAfter, clearSet, clearAfter, highAfter, targetAfter, acted, endedWork, firstWork, commandWork, addressWork, dataWork, workOf}
+use Rattle.effects.specs.Effects.{sequenceAfter, endedOutput, firstOutput, commandOutput, outputAfter, clearSet, clearAfter, highAfter, targetAfter, acted, endedWork, firstWork, commandWork, addressWork, dataWork, workOf}
+use Rattle.memory.specs.Memory.{keptAfter}
+use Rattle.lun_records.specs.LunsAfter.{begun, endCloses, endedLuns, addressedLuns, lunsAfter}
 use Rattle.step.specs.Usable.{sequenceSound}
-use Rattle.step.specs.Buffers.{pageFull, outOfOrder, blockBad, proceeds, endedFindings, findings, statusOf, outputByte}
+use Rattle.blocks.specs.Blocks.{pageFull, outOfOrder, blockBad}
+use Rattle.step.specs.Buffers.{proceeds, endedFindings, findings, statusOf, outputByte}
 use Rattle.step.specs.Step.{Buffers, replyOf, Reaches, EnderReaches}
 use Rattle.step.proofs.WorkReady.{ender-reaches}
 use Rattle.thm_kept.proofs.Choice.{by-pick}

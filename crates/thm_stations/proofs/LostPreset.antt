@@ -22,9 +22,12 @@ use Rattle.target.specs.Words.{bitOf}
 use Rattle.target.specs.declared.Reply.{Reply}
 use Rattle.target.specs.declared.Reply.the-variants.{Accepted, Byte}
 use Rattle.rules.specs.Rules.{unknown, beforeReset, fits, misplaced, outOfRange, lunWorks, noCopyback, othersBusy, lineLow, pastEnd, notOffered, notWorking, lineHeld, rules, verdict}
-use Rattle.effects.specs.Effects.{sequenceAfter, outputAfter, keptAfter, lunsAfter, selectedAfter, clearAfter, highAfter, targetAfter, targetRefused, workOf}
+use Rattle.effects.specs.Effects.{sequenceAfter, outputAfter, selectedAfter, clearAfter, highAfter, targetAfter, targetRefused, workOf}
+use Rattle.memory.specs.Memory.{keptAfter}
+use Rattle.lun_records.specs.LunsAfter.{lunsAfter}
 use Rattle.step.specs.Usable.{recordSound, usable}
-use Rattle.step.specs.Buffers.{blockIndex, pageIndex, registersAfter, arrayAfter, countsAfter, blockBad, pageFull, higherWritten, outOfOrder, findings, statusOf, outputByte}
+use Rattle.blocks.specs.Blocks.{blockIndex, pageIndex, blockBad, pageFull, higherWritten, outOfOrder}
+use Rattle.step.specs.Buffers.{registersAfter, arrayAfter, countsAfter, findings, statusOf, outputByte}
 use Rattle.step.specs.Step.{replyOf, worked, acceptedBy, accepted, byVerdict, steady, stepOf}
 use Rattle.jobs.specs.Cycles.{ColumnBytes, RowBytes}
 use Rattle.thm_stations.specs.Jobs.{readOut, program, status, byte, move, cycles}

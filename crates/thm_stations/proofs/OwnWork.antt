@@ -18,9 +18,10 @@ use Rattle.target.specs.declared.Geometry.{Geometry}
 use Rattle.target.specs.declared.Row.{Row}
 use Rattle.target.specs.declared.Work.{Work}
 use Rattle.target.specs.declared.Work.the-variants.{Nothing, ClearAll, ClearOne, Load, Put, Program, Erase}
-use Rattle.step.specs.Buffers.{pageIndex, higherWritten, registersAfter, arrayAfter, countsAfter}
+use Rattle.blocks.specs.Blocks.{pageIndex, higherWritten}
+use Rattle.step.specs.Buffers.{registersAfter, arrayAfter, countsAfter}
 use Rattle.step.specs.Step.{Buffers, worked, Ready}
-use Rattle.step.proofs.Places.{page-below, page-bytes-end, page-parts, row-page, row-block}
+use Rattle.blocks.proofs.Places.{page-below, page-bytes-end, page-parts, row-page, row-block}
 use Rattle.thm_kept.proofs.Lengths.{part-length}
 use Rattle.thm_stations.specs.Isolated.{lunBytes, lunPages}
 use Rattle.thm_stations.proofs.Edits.{Edit, as-is, put, put-alike}

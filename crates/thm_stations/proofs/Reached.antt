@@ -26,7 +26,8 @@ use Rattle.target.specs.declared.views.Ender.the-variants as ender
 use Rattle.target.specs.declared.Verdict.{Verdict}
 use Rattle.target.specs.declared.Verdict.the-variants as verdicts
 use Rattle.rules.specs.Rules.{verdict}
-use Rattle.effects.specs.Effects.{begun, endCloses, endedLuns, addressedLuns, finished, lunsAfter, targetAfter, targetRefused}
+use Rattle.lun_records.specs.LunsAfter.{begun, endCloses, endedLuns, addressedLuns, finished, lunsAfter}
+use Rattle.effects.specs.Effects.{targetAfter, targetRefused}
 use Rattle.power.specs.Power.{poweredOf}
 use Rattle.step.specs.Usable.{usable}
 use Rattle.step.specs.Step.{Buffers, steady, byVerdict, accepted, acceptedBy, stepOf, State}

@@ -11,8 +11,8 @@ use Rattle.target.specs.Address.{pageOf, blockOf, lunOf, blockExists, rowExists
 use Rattle.target.specs.Sizes.{pageSize}
 use Rattle.target.specs.declared.Geometry.{Geometry}
 use Rattle.target.specs.declared.Row.{Row}
-use Rattle.step.specs.Buffers.{blockIndex, pageIndex}
-use Rattle.step.proofs.Places.{block-there, row-block, row-page, block-parts, page-parts}
+use Rattle.blocks.specs.Blocks.{blockIndex, pageIndex}
+use Rattle.blocks.proofs.Places.{block-there, row-block, row-page, block-parts, page-parts}
 use Rattle.thm_stations.specs.Isolated.{lunBytes, lunPages}
 
 -- the i-th of b pieces of n within the l-th piece of b * n

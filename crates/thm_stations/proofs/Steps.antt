@@ -18,7 +18,9 @@ use Rattle.target.specs.declared.Verdict.the-variants.{Accepted, Refused}
 use Rattle.target.proofs.Both.{meant}
 use Rattle.rules.specs.Rules.{fits, misplaced, verdict}
 use Rattle.rules.proofs.Passed.{all-passed}
-use Rattle.effects.specs.Effects.{sequenceAfter, outputAfter, keptAfter, lunsAfter, clearAfter, highAfter, targetAfter, dropped, targetRefused, workOf}
+use Rattle.effects.specs.Effects.{sequenceAfter, outputAfter, clearAfter, highAfter, targetAfter, dropped, targetRefused, workOf}
+use Rattle.memory.specs.Memory.{keptAfter}
+use Rattle.lun_records.specs.LunsAfter.{lunsAfter}
 use Rattle.step.specs.Buffers.{findings, arrayAfter, registersAfter, countsAfter}
 use Rattle.step.specs.Step.{Buffers, Outcome, replyOf, worked, acceptedBy, accepted, byVerdict, steady, State}
 use Rattle.step.proofs.Sound.{sound, Passes, passes}

@@ -21,7 +21,9 @@ use Rattle.target.specs.declared.Verdict.{Verdict}
 use Rattle.target.specs.declared.Verdict.the-variants as verdicts
 use Rattle.rules.specs.Rules.{verdict, beforeReset, unknown, misplaced, fits, othersBusy, outOfRange, lunWorks, noCopyback, lineLow}
 use Rattle.rules.proofs.ByKind.{command-verdict, address-verdict}
-use Rattle.effects.specs.Effects.{workOf, targetAfter, lunsAfter, sequenceAfter, outputAfter, keptAfter}
+use Rattle.effects.specs.Effects.{workOf, targetAfter, sequenceAfter, outputAfter}
+use Rattle.lun_records.specs.LunsAfter.{lunsAfter}
+use Rattle.memory.specs.Memory.{keptAfter}
 use Rattle.step.specs.Buffers.{findings, registersAfter, arrayAfter, countsAfter}
 use Rattle.step.specs.Step.{Buffers, Outcome, replyOf, worked, acceptedBy, accepted}
 use Rattle.thm_steps.specs.Steps.{command, address, due, lastRow, filling, Copyback}

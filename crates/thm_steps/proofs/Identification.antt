@@ -21,7 +21,9 @@ use Rattle.target.specs.declared.Verdict.the-variants as verdicts
 use Rattle.target.specs.Place.{putOut, hasOutput}
 use Rattle.rules.specs.Rules.{verdict, beforeReset, misplaced, fits, outOfRange, notOffered, pastEnd, outputWorks, outputEnded}
 use Rattle.rules.proofs.ByKind.{address-verdict, in-verdict}
-use Rattle.effects.specs.Effects.{advanced, workOf, targetAfter, lunsAfter, sequenceAfter, outputAfter, keptAfter, clearAfter}
+use Rattle.effects.specs.Effects.{advanced, workOf, targetAfter, sequenceAfter, outputAfter, clearAfter}
+use Rattle.lun_records.specs.LunsAfter.{lunsAfter}
+use Rattle.memory.specs.Memory.{keptAfter}
 use Rattle.step.specs.Buffers.{findings, registersAfter, arrayAfter, countsAfter, outputByte}
 use Rattle.step.specs.Step.{Buffers, Outcome, replyOf, worked, acceptedBy, accepted}
 use Rattle.thm_steps.specs.Steps.{address, dataIn, dataOut, RefusedWith, Gives, setting, Identification, Live}

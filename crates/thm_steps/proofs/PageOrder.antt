@@ -15,9 +15,9 @@ use Rattle.target.specs.Address.{pageOf}
 use Rattle.target.specs.declared.Geometry.{Geometry}
 use Rattle.target.specs.declared.Row.{Row}
 use Rattle.target.specs.declared.Target.{Target}
-use Rattle.step.specs.Buffers.{blockIndex, pageIndex, blockBad, pageFull, higherWritten, outOfOrder}
+use Rattle.blocks.specs.Blocks.{blockIndex, pageIndex, blockBad, pageFull, higherWritten, outOfOrder}
 use Rattle.step.specs.Step.{Buffers}
-use Rattle.step.proofs.Places.{page-parts}
+use Rattle.blocks.proofs.Places.{page-parts}
 use Rattle.thm_steps.specs.Steps.{PageOrder}
 use Rattle.thm_steps.proofs.Program.{part-byte, program}
 

@@ -40,7 +40,9 @@ use Rattle.target.proofs.Firsts.{every}
 use Rattle.rules.specs.Rules.{Rule, firstHolding, rules, verdict, beforeReset, unknown, misplaced, fits, othersBusy, outOfRange, lunWorks, noCopyback, lineLow, lineHeld, outputEnded}
 use Rattle.rules.proofs.Passed.{all-passed}
 use Rattle.rules.proofs.ByKind.{command-verdict, address-verdict, protect-verdict}
-use Rattle.effects.specs.Effects.{opened, advanced, remembered, firstKept, rowKept, dropped, workOf, targetAfter, targetRefused, lunsAfter, sequenceAfter, outputAfter, keptAfter, selectedAfter, clearAfter, highAfter}
+use Rattle.effects.specs.Effects.{opened, advanced, dropped, workOf, targetAfter, targetRefused, sequenceAfter, outputAfter, selectedAfter, clearAfter, highAfter}
+use Rattle.memory.specs.Memory.{remembered, firstKept, rowKept, keptAfter}
+use Rattle.lun_records.specs.LunsAfter.{lunsAfter}
 use Rattle.step.specs.Usable.{outputSound, recordSound}
 use Rattle.step.specs.Buffers.{findings, registersAfter, arrayAfter, countsAfter, statusOf, outputByte}
 use Rattle.step.specs.Step.{Buffers, Outcome, replyOf, worked, acceptedBy, accepted, byVerdict, stepOf}

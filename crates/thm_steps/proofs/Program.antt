@@ -28,11 +28,13 @@ use Rattle.target.specs.declared.Work.the-variants as work
 use Rattle.target.specs.declared.Verdict.the-variants as verdicts
 use Rattle.rules.specs.Rules.{verdict, beforeReset, unknown, misplaced, fits, othersBusy, lineLow}
 use Rattle.rules.proofs.ByKind.{command-verdict}
-use Rattle.effects.specs.Effects.{workOf, targetAfter, lunsAfter, sequenceAfter}
+use Rattle.effects.specs.Effects.{workOf, targetAfter, sequenceAfter}
+use Rattle.lun_records.specs.LunsAfter.{lunsAfter}
 use Rattle.step.specs.Usable.{sequenceSound}
 use Rattle.step.proofs.Sound.{sound, passes, filling-row}
-use Rattle.step.proofs.Places.{page-bytes-end, register-end}
-use Rattle.step.specs.Buffers.{pageIndex, blockBad, pageFull, outOfOrder, findings, registersAfter, arrayAfter, countsAfter}
+use Rattle.blocks.proofs.Places.{page-bytes-end, register-end}
+use Rattle.blocks.specs.Blocks.{pageIndex, blockBad, pageFull, outOfOrder}
+use Rattle.step.specs.Buffers.{findings, registersAfter, arrayAfter, countsAfter}
 use Rattle.step.specs.Step.{Buffers, Outcome, replyOf, worked, acceptedBy, accepted}
 use Rattle.thm_steps.specs.Steps.{command, address, dataIn, due, lastRow, filling, moving, working, stillOpen, Taken, Program, Erase}
 use Rattle.thm_steps.proofs.Places.{place-10, place-85, place-d0}

@@ -20,7 +20,9 @@ use Rattle.target.specs.declared.Refusal.the-variants.{LunWorks}
 use Rattle.target.specs.declared.Verdict.the-variants as verdicts
 use Rattle.rules.specs.Rules.{verdict, beforeReset, misplaced, fits, outOfRange, lunWorks, noCopyback}
 use Rattle.rules.proofs.ByKind.{address-verdict}
-use Rattle.effects.specs.Effects.{workOf, targetAfter, lunsAfter, advanced, sequenceAfter, outputAfter, keptAfter, selectedAfter}
+use Rattle.effects.specs.Effects.{workOf, targetAfter, advanced, sequenceAfter, outputAfter, selectedAfter}
+use Rattle.lun_records.specs.LunsAfter.{lunsAfter}
+use Rattle.memory.specs.Memory.{keptAfter}
 use Rattle.step.specs.Buffers.{findings, registersAfter, arrayAfter, countsAfter, outputByte}
 use Rattle.step.specs.Step.{Buffers, Outcome, replyOf, worked, acceptedBy, accepted}
 use Rattle.thm_steps.specs.Steps.{command, address, dataOut, column, due, lastRow, working, Read}

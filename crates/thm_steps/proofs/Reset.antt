@@ -11,7 +11,9 @@ use Rattle.target.specs.declared.Target.{Target}
 use Rattle.target.specs.declared.Verdict.the-variants as verdicts
 use Rattle.rules.specs.Rules.{verdict, beforeReset, unknown, misplaced, fits, othersBusy, lineLow}
 use Rattle.rules.proofs.ByKind.{command-verdict}
-use Rattle.effects.specs.Effects.{workOf, targetAfter, lunsAfter, sequenceAfter, outputAfter, keptAfter, selectedAfter, clearAfter, highAfter}
+use Rattle.effects.specs.Effects.{workOf, targetAfter, sequenceAfter, outputAfter, selectedAfter, clearAfter, highAfter}
+use Rattle.lun_records.specs.LunsAfter.{lunsAfter}
+use Rattle.memory.specs.Memory.{keptAfter}
 use Rattle.step.specs.Buffers.{registersAfter, arrayAfter, countsAfter}
 use Rattle.step.specs.Step.{Buffers, replyOf, worked, acceptedBy, accepted}
 use Rattle.thm_kept.proofs.Choice.{or-true}

@@ -41,7 +41,9 @@ use Rattle.target.specs.declared.Verdict.the-variants as verdicts
 use Rattle.rules.specs.Rules.{verdict, beforeReset, misplaced, fits, lunWorks, pastEnd, outputWorks, outputEnded}
 use Rattle.rules.proofs.ByKind.{out-verdict}
 use Rattle.target.proofs.Both.{both}
-use Rattle.effects.specs.Effects.{addressedLuns, endedLuns, finished, advanced, workOf, targetAfter, lunsAfter, sequenceAfter, outputAfter, keptAfter, selectedAfter, clearAfter, highAfter}
+use Rattle.lun_records.specs.LunsAfter.{addressedLuns, endedLuns, finished, lunsAfter}
+use Rattle.effects.specs.Effects.{advanced, workOf, targetAfter, sequenceAfter, outputAfter, selectedAfter, clearAfter, highAfter}
+use Rattle.memory.specs.Memory.{keptAfter}
 use Rattle.step.specs.Usable.{outputSound}
 use Rattle.step.proofs.Sound.{sound, passes}
 use Rattle.step.specs.Buffers.{registersAfter, arrayAfter, countsAfter, statusOf, outputByte}

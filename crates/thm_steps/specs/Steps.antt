@@ -35,8 +35,10 @@ use Rattle.target.specs.declared.Refusal.{Refusal}
 use Rattle.target.specs.declared.Reply.{Reply}
 use Rattle.target.specs.declared.Reply.the-variants as reply
 use Rattle.rules.specs.Rules.{outputWorks, outputEnded}
-use Rattle.effects.specs.Effects.{advanced, remembered}
-use Rattle.step.specs.Buffers.{blockIndex, pageIndex, blockBad, pageFull, outOfOrder, outputByte}
+use Rattle.effects.specs.Effects.{advanced}
+use Rattle.memory.specs.Memory.{remembered}
+use Rattle.blocks.specs.Blocks.{blockIndex, pageIndex, blockBad, pageFull, outOfOrder}
+use Rattle.step.specs.Buffers.{outputByte}
 use Rattle.step.specs.Step.{Buffers, Outcome, stepOf}
 use Rattle.thm_kept.specs.Kept.{letsPass}
 

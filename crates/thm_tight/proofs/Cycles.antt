@@ -38,7 +38,9 @@ use Rattle.target.specs.declared.views.Given.the-variants as given
 use Rattle.rules.specs.Rules.{unknown, beforeReset, fits, misplaced, beyond, outOfRange, namesWorking, outputWorks, lunWorks, lacksCopyback, noCopyback, workFor, othersWorkFor, othersBusy, isGuarded, lineLow, dataEnded, outputEnded, pastEnd, unoffered, notOffered}
 use Rattle.rules.specs.Rules as rules
 use Rattle.rules.proofs.ByKind.{event, command-verdict, address-verdict, in-verdict, out-verdict}
-use Rattle.effects.specs.Effects.{opened, addressed, filled, sequenceAfter, firstOutput, addressedOutput, advanced, outputAfter, firstKept, rowKept, keptAfter, addressedLuns, lunsAfter, rowSelects, selectedAfter, clearSet, clearAfter, highAfter, targetAfter}
+use Rattle.effects.specs.Effects.{opened, addressed, filled, sequenceAfter, firstOutput, addressedOutput, advanced, outputAfter, rowSelects, selectedAfter, clearSet, clearAfter, highAfter, targetAfter}
+use Rattle.memory.specs.Memory.{firstKept, rowKept, keptAfter}
+use Rattle.lun_records.specs.LunsAfter.{addressedLuns, lunsAfter}
 use Rattle.step.specs.Buffers.{findings}
 use Rattle.thm_tight.proofs.Commands.{every, fresh}
 use Rattle.thm_tight.proofs.Part.{Part, Fine, flagsOf}

@@ -20,10 +20,12 @@ use Rattle.target.specs.declared.Output.the-variants as output
 use Rattle.target.proofs.Both.{both4}
 use Rattle.target.proofs.Limits.{limits}
 use Rattle.rules.proofs.ByKind.{event}
-use Rattle.effects.specs.Effects.{lunsAfter, targetAfter}
+use Rattle.lun_records.specs.LunsAfter.{lunsAfter}
+use Rattle.effects.specs.Effects.{targetAfter}
 use Rattle.step.specs.Usable.{markSound, marksSound}
-use Rattle.step.specs.Buffers.{blockIndex, blockBad, findings}
-use Rattle.step.proofs.Places.{row-block, block-below}
+use Rattle.blocks.specs.Blocks.{blockIndex, blockBad}
+use Rattle.step.specs.Buffers.{findings}
+use Rattle.blocks.proofs.Places.{row-block, block-below}
 use Rattle.thm_kept.proofs.Choice.{or-true}
 use Rattle.thm_tight.specs.Tight.{Reached}
 use Rattle.thm_tight.proofs.Part.{Fine, flagsOf, flag-at}

@@ -27,7 +27,9 @@ use Rattle.target.proofs.Both.{both}
 use Rattle.target.proofs.Limits.{Limits, limits}
 use Rattle.rules.specs.Rules.{rowFits, outputWorks, outputEnded}
 use Rattle.rules.proofs.ByKind.{event}
-use Rattle.effects.specs.Effects.{shown, advanced, sequenceAfter, outputAfter, keptAfter, lunsAfter, selectedAfter, clearAfter, highAfter, targetAfter}
+use Rattle.effects.specs.Effects.{shown, advanced, sequenceAfter, outputAfter, selectedAfter, clearAfter, highAfter, targetAfter}
+use Rattle.memory.specs.Memory.{keptAfter}
+use Rattle.lun_records.specs.LunsAfter.{lunsAfter}
 use Rattle.step.specs.Usable.{columnHeld, outputSound, keptSound}
 use Rattle.thm_tight.specs.Tight.{Shows, Keeps, EachGiven, OutputGiven, KeptGiven}
 use Rattle.thm_tight.proofs.Part.{Fine}

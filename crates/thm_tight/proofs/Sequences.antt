@@ -48,10 +48,12 @@ use Rattle.target.proofs.Limits.{Limits, limits}
 use Rattle.rules.specs.Rules.{exists, rowFits, beyond, lacksCopyback, notWorking}
 use Rattle.rules.specs.Rules as rules
 use Rattle.rules.proofs.ByKind.{event, finish-verdict}
-use Rattle.effects.specs.Effects.{started, opened, columnGiven, followed, shown, sequenceAfter, firstOutput, outputAfter, firstKept, keptAfter, addressedLuns, lunsAfter, selectedAfter, clearAfter, highAfter, targetAfter}
+use Rattle.effects.specs.Effects.{started, opened, columnGiven, followed, shown, sequenceAfter, firstOutput, outputAfter, selectedAfter, clearAfter, highAfter, targetAfter}
+use Rattle.memory.specs.Memory.{firstKept, keptAfter}
+use Rattle.lun_records.specs.LunsAfter.{addressedLuns, lunsAfter}
 use Rattle.step.specs.Usable.{columnHeld, rowHeld, sequenceSound}
 use Rattle.step.specs.Buffers.{findings}
-use Rattle.step.proofs.Places.{row-lun}
+use Rattle.blocks.proofs.Places.{row-lun}
 use Rattle.thm_kept.proofs.Choice.{by-pick}
 use Rattle.thm_kept.proofs.Commands.{looksAtPage, data-outside}
 use Rattle.thm_kept.proofs.Views.{row-named}

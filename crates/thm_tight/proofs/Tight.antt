@@ -19,7 +19,8 @@ use Rattle.target.specs.declared.Output.the-variants as output
 use Rattle.target.specs.declared.Verdict.the-variants.{Accepted}
 use Rattle.rules.specs.Rules.{lineHeld, verdict}
 use Rattle.rules.proofs.ByKind.{event, protect-verdict}
-use Rattle.effects.specs.Effects.{lunsAfter, clearAfter, highAfter, targetAfter}
+use Rattle.lun_records.specs.LunsAfter.{lunsAfter}
+use Rattle.effects.specs.Effects.{clearAfter, highAfter, targetAfter}
 use Rattle.step.specs.Usable.{wordsSound}
 use Rattle.step.proofs.Sound.{sound}
 use Rattle.thm_kept.proofs.Choice.{or-true}

@@ -34,12 +34,14 @@ use Rattle.target.specs.declared.Verdict.the-variants.{Accepted}
 use Rattle.target.specs.declared.Work.the-variants as work
 use Rattle.rules.specs.Rules.{beforeReset, misplaced, fits, notOffered, lunWorks, pastEnd, verdict}
 use Rattle.rules.proofs.ByKind.{event, in-verdict, out-verdict}
-use Rattle.effects.specs.Effects.{highAfter, clearAfter, selectedAfter, lunsAfter, sequenceAfter, outputAfter, keptAfter, targetAfter, workOf}
+use Rattle.effects.specs.Effects.{highAfter, clearAfter, selectedAfter, sequenceAfter, outputAfter, targetAfter, workOf}
+use Rattle.lun_records.specs.LunsAfter.{lunsAfter}
+use Rattle.memory.specs.Memory.{keptAfter}
 use Rattle.step.specs.Usable.{usable, sequenceSound, outputSound}
 use Rattle.step.specs.Buffers.{registersAfter, arrayAfter, countsAfter, outputByte}
 use Rattle.step.specs.Step.{Buffers, Outcome, replyOf, worked, acceptedBy, accepted, byVerdict, steady, stepOf}
 use Rattle.step.proofs.Sound.{sound, filling-place, filling-row, register-place, passes}
-use Rattle.step.proofs.Places.{row-lun}
+use Rattle.blocks.proofs.Places.{row-lun}
 use Rattle.thm_kept.proofs.Kept.{step-steady}
 use Rattle.trace.specs.Run.{Running, written, oneMore, ranAll, eventsOf, standsUsable}
 use Rattle.trace.specs.Data.{isData, AllData, decoding, fillingAt, registerAt, filling, giving, Taking, tookOne, takenIn, givenOut, standing, Carried}

@@ -1,7 +1,7 @@
 -- `step::buffers::burn` meets its contract.
 -- Assumes nothing.
 use native.Mathlib.Omega.{arith}
-use Rattle.step.proofs.Places.{register-end, page-bytes-end, page-below}
+use Rattle.blocks.proofs.Places.{register-end, page-bytes-end, page-below}
 use Rattle.step.specs.Buffers.{arrayAfter, countsAfter}
 use borrow.Author.Needs.{needs}
 use Rattle.step.proofs.buffers.burn.Statement.{statement}

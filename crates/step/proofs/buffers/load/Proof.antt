@@ -1,7 +1,7 @@
 -- `step::buffers::load` meets its contract.
 -- Assumes nothing.
 use native.Mathlib.Omega.{arith}
-use Rattle.step.proofs.Places.{register-end, page-bytes-end}
+use Rattle.blocks.proofs.Places.{register-end, page-bytes-end}
 use Rattle.step.specs.Buffers.{registersAfter}
 use borrow.Author.Needs.{needs}
 use Rattle.step.proofs.buffers.load.Statement.{statement}

@@ -1,7 +1,7 @@
 -- `step::buffers::proceeds` meets its contract.
 -- Assumes nothing.
 use Rattle.step.specs.Step.{Reaches}
-use Rattle.step.proofs.Places.{row-block}
+use Rattle.blocks.proofs.Places.{row-block}
 use borrow.Author.Needs.{needs}
 use Rattle.step.proofs.buffers.proceeds.Statement.{statement}
 use Rattle.step.proofs.buffers.proceeds.Tie as tie

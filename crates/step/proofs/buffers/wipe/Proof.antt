@@ -1,7 +1,7 @@
 -- `step::buffers::wipe` meets its contract.
 -- Assumes nothing.
 use native.Mathlib.Omega.{arith}
-use Rattle.step.proofs.Places.{block-pages-end, block-bytes-end}
+use Rattle.blocks.proofs.Places.{block-pages-end, block-bytes-end}
 use Rattle.step.specs.Buffers.{arrayAfter, countsAfter}
 use borrow.Author.Needs.{needs}
 use Rattle.step.proofs.buffers.wipe.Statement.{statement}
