@@ -1,6 +1,5 @@
-/* The plain model of the NAND target of document 01, with copyback (A1), polling loaders (A2), page order (A4) and the
- * number of blank blocks (A7): one struct, one switch. It is written from the documents alone, to judge the proved model
- * by. */
+/* The plain model of the NAND target of document 01, with copyback (A1), polling loaders (A2), page order (A4) and
+ * blank blocks (A7): one struct, one switch. It is written from the documents alone, to judge the proved model by. */
 #ifndef PLAIN_H
 #define PLAIN_H
 
