@@ -347,7 +347,7 @@ blanks-few : (g : Geometry) (first n : ℕ) (counts flags : List ℕ) → blanks
 blanks-few g first zero counts flags = omega arith
 blanks-few g first (suc n) counts flags =
     let one : pick (blankBlock g (first + n) counts flags) 1 0 ≤ 1 =
-        by-pick (λ (m : ℕ). m ≤ 1) (blankBlock g (first + n) counts flags) 1 0 (λ _. omega arith) (λ _. omega arith) in
+    by-pick (λ (m : ℕ). m ≤ 1) (blankBlock g (first + n) counts flags) 1 0 (λ _. omega arith) (λ _. omega arith) in
     omega (arith, one, blanks-few g first n counts flags)
 
 -- so each LUN is found as rule 13 asks

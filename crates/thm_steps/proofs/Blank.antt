@@ -55,8 +55,8 @@ module _ (g : Geometry) (r : Row) (counts flags : List ℕ) where
   all-zero good each =
       let at = blockIndex g r * g .pages in
       let none = none-set (part counts at (g .pages)) (λ i h.
-          let low : i < g .pages = omega (arith, h, part-short counts at (g .pages)) in
-          part-byte counts at (g .pages) i low ∙ each i low) in
+      let low : i < g .pages = omega (arith, h, part-short counts at (g .pages)) in
+      part-byte counts at (g .pages) i low ∙ each i low) in
       rw (none, not-false (eqb (getD flags (blockIndex g r) 0) 0) good)
 
   one-above : (p : ℕ) → p < g .pages → 0 < countAt p → blank ≡ false
@@ -132,7 +132,7 @@ module _ (g : Geometry) (luns : List Lun) (found : Findings) (l : ℕ) where
       by-pick Leaves (isReset e) _ _ (λ _. readied-leaves luns l low)
       (λ _. by-pick Leaves (eqb (e .kind) 0) _ _
       (λ is. let none = moves-none (e .value) (then-not (eqb (e .kind) 0) (eqb (e .value) 0x10 || eqb (e .value) 0xd0) h is) in
-        by-ending (λ (x : Ender). Leaves (endedLuns g luns x found)) (e .value) refl (λ f c r. found-leaves (secondOf (e .value)) f c r none) s)
+      by-ending (λ (x : Ender). Leaves (endedLuns g luns x found)) (e .value) refl (λ f c r. found-leaves (secondOf (e .value)) f c r none) s)
       (λ _. by-pick Leaves (eqb (e .kind) 1) _ _ (λ _. row-leaves g luns (λ (x : Lun). x .blank) (λ _. refl) (completed s (e .value)) l)
       (λ _. by-pick Leaves (eqb (e .kind) 4) _ _ (λ _. stored-leaves (λ (x : Lun). x .blank) luns (e .value) l _ refl) (λ _. refl))))
 
