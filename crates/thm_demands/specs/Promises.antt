@@ -90,19 +90,21 @@ LineLowRun =
 abbrev pub reset : Event
 reset = record { kind = 0; value = 0xff }
 
--- "Once powered, one FFh from any state a run can reach, with its own buffers lent, leaves every LUN ready"; FFh keeps the number of
--- blank blocks (document 02, A7)
+-- "Once powered, one FFh from any state a run can reach, with its own buffers lent, leaves every LUN ready";
+-- its number of blank blocks stays (document 02, A7)
 abbrev pub ResetReadies : Type 0
 ResetReadies =
     (page : List ℕ) (device : ℕ) (array registers counts flags : List ℕ)
     → powerAnswer page (length array) (length registers) counts flags ≡ power.Accepted
     → (es : List Event) (s : State) → s ≡ after page flags es (poweredUp page device array registers counts flags)
-    → (stepAt page flags s reset .reply ≡ Accepted) × (stepAt page flags s reset .target .luns ≡ allReadied (s .target .luns))
+    → (stepAt page flags s reset .reply ≡ Accepted)
+    × (stepAt page flags s reset .target .luns ≡ allReadied (s .target .luns))
 
 -- Rule 13 is sound: from an accepted power-on, no run with its own buffers ever meets it
 abbrev pub NeverUnusable : Type 0
 NeverUnusable =
     (page : List ℕ) (device : ℕ) (array registers counts flags : List ℕ)
     → powerAnswer page (length array) (length registers) counts flags ≡ power.Accepted
-    → (es : List Event) (e : Event) (s : State) → s ≡ after page flags es (poweredUp page device array registers counts flags)
+    → (es : List Event) (e : Event) (s : State)
+    → s ≡ after page flags es (poweredUp page device array registers counts flags)
     → (r : Refusal) → stepAt page flags s e .reply ≡ Refused r → numberOf r ≡ 13 → ⊥

@@ -25,8 +25,8 @@ params = replicate 256 0
 abbrev pub flags : List ℕ
 flags = replicate 16 0
 
--- ready, with an erased array, so that every block is blank: after the first FFh or before it, with program-clear on or off; the part has more than one
--- LUN, program-clear, EEh and EFh, 78h and 06h
+-- ready, with an erased array, so that every block is blank: after the first FFh or before it, with program-clear on or
+-- off; the part has more than one LUN, program-clear, EEh and EFh, 78h and 06h
 abbrev pub readyState : Bool → Bool → State
 readyState seen clear = record {
   target = record {

@@ -412,12 +412,13 @@ module _ (t : Target) (params : List ℕ) (b : Buffers) (flags : List ℕ) where
     pub refused : (e : Event) (q : Refusal) → after e .reply ≡ reply.Refused q
         → LeavesBuffers e × (after e .target .luns ≡ t .luns)
 
-  -- **Blank blocks** (document 02, A7). Program and Erase say that a 10h that proceeds leaves its LUN `fewer` and a D0h `more`, that
-  -- one that does not proceed leaves the number, and that no other LUN's moves.
+  -- **Blank blocks** (document 02, A7). Program and Erase say that a 10h that proceeds leaves its LUN `fewer` and a D0h
+  -- `more`, that one that does not proceed leaves the number, and that no other LUN's moves.
   pub record Blank : Type 0 where
     -- "all counts 0 and .. not bad"
     pub blank : (r : Row) → blockBad (t .geometry) r flags ≡ false
-        → ((p : ℕ) → p < t .geometry .pages → getD (b .counts) (blockIndex (t .geometry) r * t .geometry .pages + p) 0 ≡ 0)
+        → ((p : ℕ) → p < t .geometry .pages
+        → getD (b .counts) (blockIndex (t .geometry) r * t .geometry .pages + p) 0 ≡ 0)
         → isBlank r ≡ true
     pub written : (r : Row) (p : ℕ) → p < t .geometry .pages
         → 0 < getD (b .counts) (blockIndex (t .geometry) r * t .geometry .pages + p) 0
@@ -631,7 +632,8 @@ module _ (t : Target) (params : List ℕ) (b : Buffers) (flags : List ℕ) where
         × (after (command 0xe0) .target .luns ≡ t .luns) × LeavesBuffers (command 0xe0)
 
   -- **Reset.** "FFh: sequence and output dropped, registers FFh, program-clear off, every LUN ready, FAIL 0, array
-  -- and counts as they are", and so the numbers of blank blocks: accepted wherever rule 13 lets pass, and nothing else changes
+  -- and counts as they are", and so the numbers of blank blocks: accepted wherever rule 13 lets pass, and nothing else
+  -- changes
   abbrev pub Reset : Type 0
   Reset =
       letsPass t params b flags ≡ true
