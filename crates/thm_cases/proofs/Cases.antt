@@ -20,23 +20,23 @@ use Rattle.effects.specs.Effects.{sequenceAfter, outputAfter, selectedAfter, cl
 use Rattle.memory.specs.Memory.{keptAfter}
 use Rattle.lun_records.specs.LunsAfter.{lunsAfter}
 use Rattle.step.specs.Usable.{recordSound, usable}
-use Rattle.blocks.specs.Blocks.{blockIndex, pageIndex, blockBad, pageFull, higherWritten, outOfOrder}
+use Rattle.blocks.specs.Blocks.{blockIndex, pageIndex, blockBad, pageFull, higherWritten, outOfOrder, blankBlock, blankBlocks}
 use Rattle.step.specs.Buffers.{registersAfter, arrayAfter, countsAfter, findings, statusOf, outputByte}
 use Rattle.step.specs.Step.{replyOf, worked, acceptedBy, accepted, byVerdict, steady, stepOf}
 use Rattle.page.specs.Page.{field, bitOf as pageBit, signed, features, optionalCommands, makerId, dataBytes, spareBytes, pagesABlock, blocksALun, lunCount, addressCycles, programsAPage, storedCrc, crcGood, dataInLimits, spareInLimits, pagesInLimits, blocksInLimits, lunsInLimits, lunsAsFeatured, narrowBus, cyclesAsHouse, programsInLimits, fieldsInLimits}
-use Rattle.power.specs.Power.{geometryOf, wordsOf, poweredOf, wrongLength, unsigned, crcBad, fieldBad, bufferBad, contentBad, orRefused, powerAnswer, powerOf}
+use Rattle.power.specs.Power.{geometryOf, wordsOf, walked, poweredOf, wrongLength, unsigned, crcBad, fieldBad, bufferBad, contentBad, orRefused, powerAnswer, powerOf}
 use Rattle.trace.specs.Run.{written, oneMore, ranAll, eventsOf, standsUsable, oddAnswered, needed, traceOf}
 use Rattle.thm_cases.specs.Parts.{t1}
 use Rattle.thm_cases.specs.Cases.{geometry, Cases}
 
 -- power-on is computed
 unfoldable pub powers : Unit {0}
-unfolding allAtMost pageSize sized bitOf crcBit crcBits crcByte crcFrom crcOf field pageBit signed features optionalCommands makerId dataBytes spareBytes pagesABlock blocksALun lunCount addressCycles programsAPage storedCrc crcGood dataInLimits spareInLimits pagesInLimits blocksInLimits lunsInLimits lunsAsFeatured narrowBus cyclesAsHouse programsInLimits fieldsInLimits geometryOf wordsOf poweredOf wrongLength unsigned crcBad fieldBad bufferBad contentBad orRefused powerAnswer powerOf
+unfolding allAtMost someSet part blankBlock blankBlocks walked pageSize sized bitOf crcBit crcBits crcByte crcFrom crcOf field pageBit signed features optionalCommands makerId dataBytes spareBytes pagesABlock blocksALun lunCount addressCycles programsAPage storedCrc crcGood dataInLimits spareInLimits pagesInLimits blocksInLimits lunsInLimits lunsAsFeatured narrowBus cyclesAsHouse programsInLimits fieldsInLimits geometryOf wordsOf poweredOf wrongLength unsigned crcBad fieldBad bufferBad contentBad orRefused powerAnswer powerOf
 powers = tt
 
 -- and so is every definition of a run
 unfoldable pub computes : Unit {0}
-unfolding powers splice part andBytes orElse badRecord rowOf firstOf secondRow secondOf classOf offered bitsOf fieldWidth columnFrom rowFrom lunOf pageOf blockOf lunExists blockExists rowExists inLimits unknown beforeReset fits misplaced outOfRange lunWorks noCopyback othersBusy lineLow pastEnd notOffered notWorking lineHeld rules verdict sequenceAfter outputAfter keptAfter lunsAfter selectedAfter clearAfter highAfter targetAfter targetRefused workOf recordSound usable blockIndex pageIndex registersAfter arrayAfter countsAfter blockBad pageFull higherWritten outOfOrder someSet findings statusOf outputByte replyOf worked acceptedBy accepted byVerdict steady stepOf written oneMore ranAll eventsOf standsUsable oddAnswered needed traceOf
+unfolding powers splice andBytes orElse badRecord rowOf firstOf secondRow secondOf classOf offered bitsOf fieldWidth columnFrom rowFrom lunOf pageOf blockOf lunExists blockExists rowExists inLimits unknown beforeReset fits misplaced outOfRange lunWorks noCopyback othersBusy lineLow pastEnd notOffered notWorking lineHeld rules verdict sequenceAfter outputAfter keptAfter lunsAfter selectedAfter clearAfter highAfter targetAfter targetRefused workOf recordSound usable blockIndex pageIndex registersAfter arrayAfter countsAfter blockBad pageFull higherWritten outOfOrder findings statusOf outputByte replyOf worked acceptedBy accepted byVerdict steady stepOf written oneMore ranAll eventsOf standsUsable oddAnswered needed traceOf
 computes = tt
 
 -- (a): the length that `sized` asks for
