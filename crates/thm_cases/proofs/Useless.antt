@@ -24,7 +24,7 @@ use Rattle.thm_kept.proofs.Choice.{or-true}
 use Rattle.thm_kept.proofs.Kept.{step-usable, step-steady}
 use Rattle.thm_cases.specs.Parts.{t1}
 use Rattle.thm_cases.specs.Useless.{resetCommand, reached, NotRefusedAlways, Useful}
-use Rattle.thm_cases.proofs.Cases.{computes, cases}
+use Rattle.thm_cases.proofs.Cases.{computes, steadily, starts-1, tells, leaves-array, leaves-counts, cases}
 
 -- rule 13 lets pass wherever a run stands
 ran-passes : (params flags : List ℕ) (es : List Event) (s : Running) → letsPass (s .target) params (s .buffers) flags ≡ true
@@ -56,14 +56,16 @@ reset-taken es =
     (ran-passes (t1 .params) (t1 .flags) es _ (cases .start-1 .passes))
 
 pub useful : Useful
-unfolding computes
-useful = record {
-  not-refused-always = reset-taken;
-  not-accepted-always = refl;
-  not-idle = refl;
-  not-once-only = refl;
-  counted-once = refl;
-  counted-twice = refl;
-  its-own = λ g r counts h. getD-set-same counts (pageIndex g r) _ 0 h;
-  no-other = λ g r counts i h. getD-set-other counts (pageIndex g r) i _ 0 h;
-}
+unfolding countsAfter
+useful =
+    let holding = starts-1 0xa5 in
+    record {
+      not-refused-always = reset-taken;
+      not-accepted-always = tells holding _ _ (unfold computes steadily in refl);
+      not-idle = leaves-array holding _ _ (unfold computes steadily in refl);
+      not-once-only = leaves-array holding _ _ (unfold computes steadily in refl);
+      counted-once = leaves-counts holding _ _ (unfold computes steadily in refl);
+      counted-twice = leaves-counts holding _ _ (unfold computes steadily in refl);
+      its-own = λ g r counts h. getD-set-same counts (pageIndex g r) _ 0 h;
+      no-other = λ g r counts i h. getD-set-other counts (pageIndex g r) i _ 0 h;
+    }
