@@ -3,7 +3,6 @@ from __future__ import annotations
 
 import errno
 import os
-import platform
 import random
 import shutil
 import subprocess
@@ -25,6 +24,7 @@ from nibtoggle.part import Part  # noqa: E402
 from nibtoggle.parts import PARTS  # noqa: E402
 
 NIB = Path(os.environ.get("NIB_PROGRAM", ROOT / "target" / "bin" / "nib"))
+RUN = ROOT / "tools" / "run-x86"
 NIBS = ROOT / "crates" / "test_nib" / "data"
 SAVE = ("c ff\nc 80  a 00 00 37 00 00  d 3c a5\nc 10  f 1\nc 80 a 00 00 00 00 00 d 11\nc 10 f 0\n"
         "c 00  a 00 00 37 00 00  c 30  f 1  o 3\n")
@@ -37,7 +37,6 @@ def held(folder: Path) -> Held:
     return {path.name: (path.read_bytes(), path.stat().st_mtime_ns) for path in sorted(folder.iterdir())}
 
 
-@unittest.skipUnless(platform.machine() == "x86_64", "nib is a program for x86-64")
 class Nib(unittest.TestCase):
     @classmethod
     def setUpClass(cls) -> None:
@@ -45,7 +44,11 @@ class Nib(unittest.TestCase):
             raise AssertionError("there is no %s: `rt check nib` builds it" % NIB)
         cls.tools = tempfile.TemporaryDirectory()
         cls.shim = str(Path(cls.tools.name) / "fail.so")
-        subprocess.run(["cc", "-shared", "-fPIC", "-O1", str(ROOT / "tests" / "c" / "fail.c"), "-o", cls.shim, "-ldl"], check=True)
+        subprocess.run([str(ROOT / "tests" / "c" / "build-fail"), cls.shim], check=True)
+        # nib as one word, for shells too: on Arm the kit's emulator runs it
+        cls.program = Path(cls.tools.name) / "nib"
+        cls.program.write_text('#!/bin/sh\nexec "%s" "%s" "$@"\n' % (RUN, NIB), encoding="utf-8")
+        cls.program.chmod(0o755)
 
     @classmethod
     def tearDownClass(cls) -> None:
@@ -61,8 +64,8 @@ class Nib(unittest.TestCase):
     def nib(self, *words: str, given: bytes = b"", fail: str = "") -> Tuple[bytes, str]:
         environment = dict(os.environ)
         if fail:
-            environment.update(LD_PRELOAD=self.shim, NIB_FAIL=fail)
-        done = subprocess.run([str(NIB), *words], input=given, env=environment, cwd=self.folder, stdout=subprocess.PIPE, stderr=subprocess.PIPE)
+            environment.update(RUN_X86_PRELOAD=self.shim, NIB_FAIL=fail)
+        done = subprocess.run([str(self.program), *words], input=given, env=environment, cwd=self.folder, stdout=subprocess.PIPE, stderr=subprocess.PIPE)
         self.assertEqual(done.returncode, 0)
         return done.stdout, done.stderr.decode("utf-8", "replace")
 
@@ -297,7 +300,7 @@ class Errors(Nib):
                             ('"$0" text -d < t1', "standard input: Is a directory"),
                             ('"$0" help > /dev/full', "standard output: No space left on device")):
             (self.folder / "trace").write_bytes(self.trace)
-            done = subprocess.run(["sh", "-c", shell, str(NIB)], cwd=self.folder, stdout=subprocess.PIPE, stderr=subprocess.PIPE,
+            done = subprocess.run(["sh", "-c", shell, str(self.program)], cwd=self.folder, stdout=subprocess.PIPE, stderr=subprocess.PIPE,
                                   text=True)
             self.assertEqual((done.stdout, done.stderr), ("", "nib: %s\n" % told), shell)
             self.assertEqual(held(self.part), before)
@@ -345,7 +348,7 @@ class Defects(Nib):
         said, error = self.nib("text", given=bad)
         self.assertEqual(said, b"")
         self.assertIn("line 7, place 3: 'zz': not two hex digits", error)
-        subprocess.run(["sh", "-c", '"$0" text | "$0" run t1', str(NIB)], input=bad, cwd=self.folder, stderr=subprocess.DEVNULL, stdout=subprocess.DEVNULL)
+        subprocess.run(["sh", "-c", '"$0" text | "$0" run t1', str(self.program)], input=bad, cwd=self.folder, stderr=subprocess.DEVNULL, stdout=subprocess.DEVNULL)
         self.assertEqual({n: contents for n, (contents, _) in held(self.part).items() if n != "registers"},
                          {n: contents for n, (contents, _) in before.items()})
 

@@ -2,7 +2,6 @@
 from __future__ import annotations
 
 import os
-import platform
 import subprocess
 import sys
 import tempfile
@@ -136,7 +135,6 @@ class Sequences(unittest.TestCase):
                     self.numbered(case, line, bench)
                 self.held(case, Replies(bytes(byte for reply in single for byte in reply), records_of(case.text)))
 
-    @unittest.skipUnless(platform.machine() == "x86_64", "nib is a program for x86-64")
     def test_by_nib(self) -> None:
         for case in (case for some in ALL.values() for case in some):
             with tempfile.TemporaryDirectory() as name:
@@ -158,7 +156,7 @@ class Sequences(unittest.TestCase):
                     self.assertIn("refused %d: %s" % (reply.refusal, reply.words), line, case.title)
 
     def nib(self, *words: str, given: bytes) -> bytes:
-        done = subprocess.run([str(NIB), *words], input=given, stdout=subprocess.PIPE, stderr=subprocess.PIPE)
+        done = subprocess.run([str(ROOT / "tools" / "run-x86"), str(NIB), *words], input=given, stdout=subprocess.PIPE, stderr=subprocess.PIPE)
         self.assertEqual((done.returncode, done.stderr), (0, b""))
         return done.stdout
 
