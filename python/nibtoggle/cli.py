@@ -23,7 +23,7 @@ USAGE = """\
   nibtoggle parts                  the parts that have a name
   nibtoggle run DIR < TRACE        replies on standard output; the folder is brought up to date
   nibtoggle explain DIR < TRACE    the same in words; the folder stays as it is
-  nibtoggle page FILE or DIR       what a parameter page says, and power-on's answer; of a part folder its blank blocks too
+  nibtoggle page FILE or DIR       what a parameter page says, and power-on's answer; of a folder its blank blocks too
   nibtoggle dump DIR LUN BLOCK PAGE   a page of the array; the folder stays as it is
   nibtoggle diff DIR DIR           where two parts differ; status 3 if they do
   nibtoggle text < TEXT > TRACE    a trace from text, as: c 80  a 00 00 37 00 00  d 3c  o 16  f 1  p 0

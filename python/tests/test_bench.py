@@ -251,9 +251,11 @@ class Jobs(unittest.TestCase):
         bench = Bench.t1(counts=bytes([0, 0, 0, 1]) + bytes(60), bad=[(0, 1)])
         bench.reset()
 
+        def is_blank(block: int) -> bool:
+            return not bench.flags[block] and not any(bench.counts[4 * block:4 * block + 4])
+
         def blank() -> List[int]:
-            walked = [sum(not bench.flags[first + block] and not any(bench.counts[4 * (first + block):4 * (first + block + 1)])
-                          for block in range(8)) for first in (0, 8)]
+            walked = [sum(map(is_blank, range(first, first + 8))) for first in (0, 8)]
             kept = [bench.blank(lun) for lun in range(2)]
             self.assertEqual(kept, walked)
             return kept

@@ -232,12 +232,12 @@ class Commands(Tried):
         self.assertEqual((status, said.splitlines()[-1]), (0, b"blank blocks       LUN 0: 5, LUN 1: 8"))
         self.assertEqual(said.splitlines()[:-1], self.call("page", "t1/page")[1].splitlines())
         self.assertEqual(files(self.folder / "t1"), before)
-        (self.folder / "t1" / "counts").write_bytes(bytes([5]) + bytes(63))                # more than 4 programs
+        (self.folder / "t1" / "counts").write_bytes(bytes([5]) + bytes(63))         # more than 4 programs
         status, said, error = self.call("page", "t1")
         self.assertEqual(status, 1)
         self.assertIn("t1: power-on refused 25", error)
         self.assertNotIn(b"blank blocks", said)
-        (self.folder / "t1" / "page").write_bytes(bytes(256))                              # no part, and nothing to count
+        (self.folder / "t1" / "page").write_bytes(bytes(256))           # no part, and nothing to count
         status, said, error = self.call("page", "t1")
         self.assertEqual((status, error), (0, ""))
         self.assertNotIn(b"blank blocks", said)
@@ -298,7 +298,7 @@ class Commands(Tried):
         status, said, _ = self.call("page", "page")
         self.assertEqual(status, 0)
         self.assertIn(b"power-on           accepted, with an array of 4529848320 bytes", said)
-        self.assertNotIn(b"blank blocks", said)                                             # a page says nothing of them
+        self.assertNotIn(b"blank blocks", said)                         # a page says nothing of them
         status, said, _ = self.call("parts")
         self.assertEqual([line.split()[0] for line in said.decode().splitlines()], list(PARTS))
         self.assertNotIn(b"blank blocks", self.call("page", "T1")[1])

@@ -90,7 +90,8 @@ class Files(Nib):
         self.good("run", "t1", given=self.trace)
         before = held(self.part)
         for words, given in ((("explain", "t1"), self.trace), (("explain", "t1"), b""), (("explain", "t1"), b"\x00\xFF\x05"),
-                             (("page", "t1/page"), b""), (("page", "t1"), b""), (("text",), SAVE.encode()), (("text", "-d"), self.trace), (("help",), b""),
+                             (("page", "t1/page"), b""), (("page", "t1"), b""), (("text",), SAVE.encode()),
+                             (("text", "-d"), self.trace), (("help",), b""),
                              (("text", "t1"), b"erase 1 5\n"), (("text", "t1"), b"erase 1 9\n"), (("jobs",), self.trace), (("jobs", "t1"), self.trace),
                              (("parts",), b""), (("version",), b""), (("new", "--help"), b""), (("run", "--help"), self.trace)):
             self.nib(*words, given=given)

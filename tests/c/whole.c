@@ -645,7 +645,8 @@ static void refused_calls(void)
     wrong.page_length = 255;
     same("20", nib_lent_power_on(&x.t, &wrong, DEVICE), 20);
     same("unpowered", command(&x, 0xFF), REFUSED(13));
-    same("all numbers 0", x.t.data_bytes == 0 && x.t.features == 0 && x.t.luns == 0 && x.t.device == 0 && x.t.blank[0] == 0, 1);
+    same("all numbers 0", x.t.data_bytes == 0 && x.t.features == 0 && x.t.luns == 0 && x.t.device == 0, 1);
+    same("no blank block", x.t.blank[0], 0);
     x.page[0] = 'o';
     same("21", nib_lent_power_on(&x.t, &x.b, DEVICE), 21);
     x.page[0] = 'O';

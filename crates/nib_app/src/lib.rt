@@ -65,7 +65,7 @@ fn usage_files(out: &mut Paper, p: Pen) -> Pen {
     let p = text(
         out,
         p,
-        b"  nib page FILE or DIR       what a parameter page says, and power-on's answer; of a part folder its blank blocks too\n",
+        b"  nib page FILE or DIR       what a parameter page says, and power-on's answer; of a folder its blank blocks too\n",
     );
     text(
         out,
