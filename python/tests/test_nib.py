@@ -90,12 +90,25 @@ class Files(Nib):
         self.good("run", "t1", given=self.trace)
         before = held(self.part)
         for words, given in ((("explain", "t1"), self.trace), (("explain", "t1"), b""), (("explain", "t1"), b"\x00\xFF\x05"),
-                             (("page", "t1/page"), b""), (("text",), SAVE.encode()), (("text", "-d"), self.trace), (("help",), b""),
+                             (("page", "t1/page"), b""), (("page", "t1"), b""), (("text",), SAVE.encode()),
+                             (("text", "-d"), self.trace), (("help",), b""),
                              (("text", "t1"), b"erase 1 5\n"), (("text", "t1"), b"erase 1 9\n"), (("jobs",), self.trace), (("jobs", "t1"), self.trace),
                              (("parts",), b""), (("version",), b""), (("new", "--help"), b""), (("run", "--help"), self.trace)):
             self.nib(*words, given=given)
             self.assertEqual(held(self.part), before, words)
         self.assertEqual([path.name for path in self.folder.iterdir()], ["t1"])
+
+    def test_page_of_a_folder_has_its_blank_blocks(self) -> None:
+        self.good("new", "t1")
+        self.good("run", "t1", given=self.trace)
+        with Bench.open(self.part) as bench:
+            due = "blank blocks       LUN 0: %d, LUN 1: %d" % (bench.blank(0), bench.blank(1))
+        said = self.good("page", "t1").decode().splitlines()
+        self.assertEqual(said, self.good("page", "t1/page").decode().splitlines() + [due])
+        (self.part / "counts").write_bytes(bytes([5]) + bytes(63))          # more than 4 programs
+        said_, error = self.nib("page", "t1")
+        self.assertEqual(said_.decode().splitlines(), said[:-1])
+        self.assertIn("t1: power-on refused 25", error)
 
     def test_run_leaves_what_the_library_leaves(self) -> None:
         for name, trace in (("t1", self.trace), ("tiny", (NIBS / "trace").read_bytes())):
