@@ -51,7 +51,7 @@ endedLuns g luns ender.Nothing found = luns
 endedLuns g luns (ender.By k) found =
     pick (secondRow (k .second) .starts)
     (begun g luns (k .row) (not (found .proceeds)) (secondRow (k .second) .opens) (endCloses k)
-     (blankAfter g (secondRow (k .second) .act) found (blankAt luns (lunOf g (k .row)))))
+    (blankAfter g (secondRow (k .second) .act) found (blankAt luns (lunOf g (k .row)))))
     luns
 
 -- to its finish event

@@ -72,14 +72,14 @@ module _ (g : Geometry) (words : Words) (flags : List ℕ) where
         → Counted (set luns (lunOf g r) x) now
     moved r x now named own others l h = by-lun (eqb l (lunOf g r)) refl
       where
-      by-lun : (b : Bool) → eqb l (lunOf g r) ≡ b → blankAt (set luns (lunOf g r) x) l ≡ blankBlocks g l now flags
-      by-lun true e =
-          let at : l ≡ lunOf g r = eqb-true l (lunOf g r) e in
-          subst (λ (i : ℕ). blankAt (set luns (lunOf g r) x) i ≡ blankBlocks g i now flags) (sym at)
-          (ap (λ (y : Lun). y .blank) (getD-set-same luns (lunOf g r) x lunUnused (omega (arith, named, four, all))) ∙ own)
-      by-lun false e =
-          let apart = eqb-false l (lunOf g r) e in
-          ap (λ (y : Lun). y .blank) (getD-set-other luns (lunOf g r) l x lunUnused apart) ∙ true-so-far l h ∙ sym (others l apart)
+        by-lun : (b : Bool) → eqb l (lunOf g r) ≡ b → blankAt (set luns (lunOf g r) x) l ≡ blankBlocks g l now flags
+        by-lun true e =
+            let at : l ≡ lunOf g r = eqb-true l (lunOf g r) e in
+            subst (λ (i : ℕ). blankAt (set luns (lunOf g r) x) i ≡ blankBlocks g i now flags) (sym at)
+            (ap (λ (y : Lun). y .blank) (getD-set-same luns (lunOf g r) x lunUnused (omega (arith, named, four, all))) ∙ own)
+        by-lun false e =
+            let apart = eqb-false l (lunOf g r) e in
+            ap (λ (y : Lun). y .blank) (getD-set-other luns (lunOf g r) l x lunUnused apart) ∙ true-so-far l h ∙ sym (others l apart)
 
     -- 10h: its block is not blank afterwards, and no other has changed
     module _ (r : Row) (there : rowExists g r ≡ true) where

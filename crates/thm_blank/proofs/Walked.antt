@@ -86,12 +86,12 @@ module _ (g : Geometry) (words : Words) (flags : List ℕ) (luns : List Lun) (co
   unfolding countsAfter
   readied l h = number l (omega (arith, h, four)) ∙ so-far l h
     where
-    number : (l : ℕ) → l < 4 → blankAt (allReadied luns) l ≡ blankAt luns l
-    number zero h = refl
-    number (suc zero) h = refl
-    number (suc (suc zero)) h = refl
-    number (suc (suc (suc zero))) h = refl
-    number (suc (suc (suc (suc l)))) h = absurd (omega (arith, h))
+      number : (l : ℕ) → l < 4 → blankAt (allReadied luns) l ≡ blankAt luns l
+      number zero h = refl
+      number (suc zero) h = refl
+      number (suc (suc zero)) h = refl
+      number (suc (suc (suc zero))) h = refl
+      number (suc (suc (suc (suc l)))) h = absurd (omega (arith, h))
 
   -- a first command
   opened : (clear : Bool) (f : FirstFound) → Holds luns (firstWork clear f)
@@ -111,7 +111,7 @@ module _ (g : Geometry) (words : Words) (flags : List ℕ) (luns : List Lun) (co
 
   commanded : (clear : Bool) (s : Sequence) (v : ℕ) → sequenceSound g s ≡ true
       → Holds (endedLuns g luns (ending s v) (endedFindings g words (ending s v) counts flags))
-        (commandWork clear s v (endedFindings g words (ending s v) counts flags))
+      (commandWork clear s v (endedFindings g words (ending s v) counts flags))
   commanded clear Idle v h = opened clear (firstOf v)
   commanded clear (Columns k) v h = by-ender (ending (Columns k) v) (ender-reaches g (Columns k) v h)
   commanded clear (Rows k) v h = by-ender (ending (Rows k) v) (ender-reaches g (Rows k) v h)
@@ -148,20 +148,20 @@ module _ (g : Geometry) (words : Words) (flags : List ℕ) (luns : List Lun) (co
       by-pick-both Holds (isReset e) _ _ _ _ (λ _. readied)
       (λ _. by-pick-both Holds (eqb (e .kind) 0) _ _ _ _
       (λ is. subst (λ (f : Findings). Holds (endedLuns g luns (ending s (e .value)) f) (commandWork clear s (e .value) f)) (sym (told ∙ rw (is)))
-        (commanded clear s (e .value) sane))
+      (commanded clear s (e .value) sane))
       (λ _. by-pick-both Holds (eqb (e .kind) 1) _ _ _ _
       (λ _. unmoved (addressedLuns g luns (completed s (e .value))) (addressWork g clear (completed s (e .value)))
-        (λ l. row-leaves g luns (λ (x : Lun). x .blank) (λ _. refl) (completed s (e .value)) l) (address-counts clear (completed s (e .value))))
+      (λ l. row-leaves g luns (λ (x : Lun). x .blank) (λ _. refl) (completed s (e .value)) l) (address-counts clear (completed s (e .value))))
       (λ _. by-pick (λ (x : List Lun). Holds x (pick (eqb (e .kind) 2) (dataWork g (taking s) (e .value)) work.Nothing)) (eqb (e .kind) 4) _ _
       (λ _. by-pick (Holds (finished luns (e .value))) (eqb (e .kind) 2) _ _
-        (λ _. unmoved (finished luns (e .value)) _ (ended-number (e .value)) (data-counts (taking s) (e .value)))
-        (λ _. unmoved (finished luns (e .value)) _ (ended-number (e .value)) no-counts))
+      (λ _. unmoved (finished luns (e .value)) _ (ended-number (e .value)) (data-counts (taking s) (e .value)))
+      (λ _. unmoved (finished luns (e .value)) _ (ended-number (e .value)) no-counts))
       (λ _. by-pick (Holds luns) (eqb (e .kind) 2) _ _
-        (λ _. unmoved luns _ (λ l. refl) (data-counts (taking s) (e .value)))
-        (λ _. unmoved luns _ (λ l. refl) no-counts)))))
+      (λ _. unmoved luns _ (λ l. refl) (data-counts (taking s) (e .value)))
+      (λ _. unmoved luns _ (λ l. refl) no-counts)))))
     where
-    ended-number : (i l : ℕ) → blankAt (finished luns i) l ≡ blankAt luns l
-    ended-number i l = stored-leaves (λ (x : Lun). x .blank) luns i l _ refl
+      ended-number : (i l : ℕ) → blankAt (finished luns i) l ≡ blankAt luns l
+      ended-number i l = stored-leaves (λ (x : Lun). x .blank) luns i l _ refl
 
 -- the four records stay four
 module _ (g : Geometry) (luns : List Lun) (all : length luns ≡ 4) where
@@ -234,12 +234,12 @@ powered-stands : (page : List ℕ) (device : ℕ) (array registers counts flags 
 unfolding poweredOf
 powered-stands page device array registers counts flags few = record { four = refl; numbers = number }
   where
-  number : (l : ℕ) → l < geometryOf page .luns → blankAt (poweredOf page device counts flags .luns) l ≡ blankBlocks (geometryOf page) l counts flags
-  number zero h = found-walked (geometryOf page) counts flags 0 h
-  number (suc zero) h = found-walked (geometryOf page) counts flags 1 h
-  number (suc (suc zero)) h = found-walked (geometryOf page) counts flags 2 h
-  number (suc (suc (suc zero))) h = found-walked (geometryOf page) counts flags 3 h
-  number (suc (suc (suc (suc l)))) h = absurd (omega (arith, h, few))
+    number : (l : ℕ) → l < geometryOf page .luns → blankAt (poweredOf page device counts flags .luns) l ≡ blankBlocks (geometryOf page) l counts flags
+    number zero h = found-walked (geometryOf page) counts flags 0 h
+    number (suc zero) h = found-walked (geometryOf page) counts flags 1 h
+    number (suc (suc zero)) h = found-walked (geometryOf page) counts flags 2 h
+    number (suc (suc (suc zero))) h = found-walked (geometryOf page) counts flags 3 h
+    number (suc (suc (suc (suc l)))) h = absurd (omega (arith, h, few))
 
 pub always-walked : AlwaysWalked
 unfolding poweredOf

@@ -78,14 +78,14 @@ module _ (g : Geometry) (counts now flags : List ℕ) where
     elsewhere : (l i : ℕ) → i < g .blocks → (l ≡ home → ⊥) → blockIndex g r ≡ l * g .blocks + i → ⊥
     elsewhere l i low other q = by-side (ltb l home) refl
       where
-      by-side : (b : Bool) → ltb l home ≡ b → ⊥
-      by-side true e =
-          let end = piece (g .blocks) (ltb-true l home e) in
-          omega (arith, end, low, q, block-parts g r)
-      by-side false e =
-          let above : home < l = lt-of-le-ne (ltb-false l home e) (λ (p : home ≡ l). other (sym p)) in
-          let end = piece (g .blocks) above in
-          omega (arith, end, q, block-parts g r, block-there g r there .block)
+        by-side : (b : Bool) → ltb l home ≡ b → ⊥
+        by-side true e =
+            let end = piece (g .blocks) (ltb-true l home e) in
+            omega (arith, end, low, q, block-parts g r)
+        by-side false e =
+            let above : home < l = lt-of-le-ne (ltb-false l home e) (λ (p : home ≡ l). other (sym p)) in
+            let end = piece (g .blocks) above in
+            omega (arith, end, q, block-parts g r, block-there g r there .block)
 
     pub other-walk : (l : ℕ) → (l ≡ home → ⊥) → blankBlocks g l now flags ≡ blankBlocks g l counts flags
     unfolding blankBlocks
@@ -105,6 +105,6 @@ walk-few g first (suc n) counts flags =
     let few : (b : Bool) → one b ≤ 1 = at-most-one in
     omega (arith, few (blankBlock g (first + n) counts flags), walk-few g first n counts flags)
   where
-  at-most-one : (b : Bool) → one b ≤ 1
-  at-most-one true = omega arith
-  at-most-one false = omega arith
+    at-most-one : (b : Bool) → one b ≤ 1
+    at-most-one true = omega arith
+    at-most-one false = omega arith

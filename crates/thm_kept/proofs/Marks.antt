@@ -86,14 +86,14 @@ module _ (g : Geometry) where
   pub marks-within : (luns : List Lun) (l : ℕ) → l < g .luns → g .luns ≤ 4 → marksSound g luns ≡ true → blankAt luns l ≤ g .blocks
   marks-within luns l h four k = within-four luns l h four (both4 (markSound g luns 0) (markSound g luns 1) (markSound g luns 2) (markSound g luns 3) k)
     where
-    within-four : (luns : List Lun) (l : ℕ) → l < g .luns → g .luns ≤ 4
-        → (markSound g luns 0 ≡ true) × (markSound g luns 1 ≡ true) × (markSound g luns 2 ≡ true) × (markSound g luns 3 ≡ true)
-        → blankAt luns l ≤ g .blocks
-    within-four luns zero h four p = mark-within luns 0 h (p .0)
-    within-four luns (suc zero) h four p = mark-within luns 1 h (p .1)
-    within-four luns (suc (suc zero)) h four p = mark-within luns 2 h (p .2)
-    within-four luns (suc (suc (suc zero))) h four p = mark-within luns 3 h (p .3)
-    within-four luns (suc (suc (suc (suc l)))) h four p = absurd (omega arith)
+      within-four : (luns : List Lun) (l : ℕ) → l < g .luns → g .luns ≤ 4
+          → (markSound g luns 0 ≡ true) × (markSound g luns 1 ≡ true) × (markSound g luns 2 ≡ true) × (markSound g luns 3 ≡ true)
+          → blankAt luns l ≤ g .blocks
+      within-four luns zero h four p = mark-within luns 0 h (p .0)
+      within-four luns (suc zero) h four p = mark-within luns 1 h (p .1)
+      within-four luns (suc (suc zero)) h four p = mark-within luns 2 h (p .2)
+      within-four luns (suc (suc (suc zero))) h four p = mark-within luns 3 h (p .3)
+      within-four luns (suc (suc (suc (suc l)))) h four p = absurd (omega arith)
 
   -- FFh leaves the numbers
   mark-readied : (luns : List Lun) (l : ℕ) (b : Bool) → pick b (leb (blankAt luns l) (g .blocks)) (isUnused (lunAt luns l)) ≡ true
@@ -126,7 +126,7 @@ module _ (g : Geometry) where
   ended-sound luns (ender.By e) says four h k =
       by-pick (λ (x : List Lun). marksSound g x ≡ true) (secondRow (e .second) .starts) _ _
       (λ is. marks-set luns (lunOf g (e .row)) _ (h .starts is)
-        (after-within (secondRow (e .second) .act) says _ (marks-within luns (lunOf g (e .row)) (h .starts is) four k)) k)
+      (after-within (secondRow (e .second) .act) says _ (marks-within luns (lunOf g (e .row)) (h .starts is) four k)) k)
       (λ _. k)
 
   -- a row that closes a copyback names a LUN that exists
