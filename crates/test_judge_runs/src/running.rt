@@ -4,12 +4,14 @@ use crate::spoils::is_legal;
 use crate::spoils::pick_spoil;
 use crate::spoils::spoil_length;
 use crate::spoils::spoiled;
+use crate::spoils::with_blank;
 use power::Powered;
 use power::power_number;
 use slices::part_of;
 use target::Event;
 use target::Output;
 use target::Target;
+use target::records::blank_at;
 use target::records::copyback_at;
 use target::reply_first;
 use target::reply_second;
@@ -31,6 +33,7 @@ use test_judge_parts::state::Registers;
 use test_judge_parts::state::State;
 use test_judge_parts::state::fetch;
 use test_judge_parts::state::one_more;
+use test_judge_traces::records::pick_lun;
 use test_kit::numbers::add;
 use test_kit::numbers::at_most;
 use test_kit::numbers::byte;
@@ -246,7 +249,22 @@ fn absorb_rest<'a>(t: Target, g: &mut State, page: &'a [u8], registers: &'a [u8]
     show(g, b" rest ", which, u.at, u.count, 0);
 }
 
-// The record's numbers that no reply need show: which LUNs have a copyback open, and what is kept behind a status.
+// The number of blank blocks that the record keeps, by LUN.
+pub fn absorb_blanks(t: Target, g: &mut State) {
+    let luns = t.luns;
+    let a = blank_at(luns, 0) as usize;
+    let b = blank_at(luns, 1) as usize;
+    let c = blank_at(luns, 2) as usize;
+    let d = blank_at(luns, 3) as usize;
+    absorb(g, a);
+    absorb(g, b);
+    absorb(g, c);
+    absorb(g, d);
+    show(g, b" blanks ", a, b, c, d);
+}
+
+// The record's numbers that no reply need show: which LUNs have a copyback open, what is kept behind a status, and the blank
+// blocks.
 fn absorb_record(t: Target, g: &mut State) {
     let luns = t.luns;
     let a = mark(copyback_at(luns, 0));
@@ -265,6 +283,7 @@ fn absorb_record(t: Target, g: &mut State) {
     absorb(g, kept[1]);
     absorb(g, kept[2]);
     show(g, b" kept ", kept[0], kept[1], kept[2], 0);
+    absorb_blanks(t, g);
 }
 
 // The kind of an output, its LUN and its next place.
@@ -297,7 +316,7 @@ fn spoiled_value(g: &mut State, what: usize) -> usize {
     if is_legal(what) { 0 } else { below(g, 256) }
 }
 
-// One event, then a trace of it and an odd byte.
+// One event, then a trace of it and an odd byte; the numbers of blank blocks as they are left.
 fn run_copy(
     c: Target,
     g: &mut State,
@@ -317,7 +336,7 @@ fn run_copy(
     if !(g[61] == due) {
         one_more(g, place::SURPRISES);
     }
-    run_batch(
+    let c = run_batch(
         c,
         g,
         &records,
@@ -330,6 +349,7 @@ fn run_copy(
         counts,
         flags,
     );
+    absorb_blanks(c, g);
 }
 
 // A copy that is spoiled.
@@ -368,6 +388,19 @@ fn run_spoiled(
         flags,
     );
     measure(g);
+}
+
+// One time in eight the record itself gets an untrue number of blank blocks that 13 lets pass, 0 or all, and the trace goes on
+// with it: so programs meet a number that stops at 0, and erases one that stops at all.
+fn lie_blank(t: Target, g: &mut State) -> Target {
+    let what = below(g, 16);
+    let lun = pick_lun(g);
+    if 1 < what {
+        return t;
+    }
+    let number = times(what, g[field::BLOCKS]);
+    show(g, b" lie ", lun, number, 0, 0);
+    with_blank(t, lun, number)
 }
 
 // One batch of a trace, at byte 'at', and what is looked at after it.
@@ -412,8 +445,10 @@ fn run_some(
     absorb_record(n, g);
     if sometimes(g, knob::SPOIL) {
         run_spoiled(n, g, replies, page, array, registers, counts, flags);
+        lie_blank(n, g)
+    } else {
+        n
     }
-    n
 }
 
 // Batches of 'step' bytes; with a step of one record, event by event.

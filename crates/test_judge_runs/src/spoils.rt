@@ -64,6 +64,33 @@ fn opened(t: Target, l: usize) -> Target {
     n
 }
 
+// A LUN with this number of blank blocks.
+pub fn with_blank(t: Target, l: usize, number: usize) -> Target {
+    let luns = t.luns;
+    let mut n = t;
+    if l < 4 {
+        let x = luns[l];
+        n.luns[l] = Lun {
+            blank: (number % 65536) as u16,
+            ..x
+        };
+    }
+    n
+}
+
+// Spoils of the number of blank blocks, the last one of a LUN that does not exist; 70 and 71 are legal.
+fn spoil_blank(t: Target, what: usize) -> Target {
+    let g = t.geometry;
+    let last = sub(g.luns, 1);
+    match what {
+        70 => with_blank(t, 0, 0),
+        71 => with_blank(t, last, g.blocks),
+        72 => with_blank(t, 0, add(g.blocks, 1)),
+        73 => with_blank(t, last, add(g.blocks, 1)),
+        _ => with_blank(t, 3, 1),
+    }
+}
+
 // Spoils of the record's own numbers; 54 is legal, with the option or without.
 fn spoil_number(t: Target, what: usize) -> Target {
     let g = t.geometry;
@@ -289,6 +316,7 @@ pub fn spoiled(t: Target, g: &State, what: usize) -> Target {
         18..=29 => with_output(t, spoil_output(p, what)),
         31..=42 | 50..=52 | 62 => with_sequence(t, spoil_sequence(p, g, what)),
         55..=61 | 63..=68 => with_kept(t, spoil_kept(p, what)),
+        70..=74 => spoil_blank(t, what),
         _ => with_sequence(t, legal_sequence(p, g, what)),
     }
 }
@@ -319,8 +347,8 @@ fn fills_bits(n: usize) -> bool {
 
 // Some spoils can't be written down for every part.
 pub fn pick_spoil(g: &mut State) -> usize {
-    let what = below(g, 70);
-    if (g[field::LUNS] == 4) & ((what == 12) | (what == 30) | (what == 47)) {
+    let what = below(g, 75);
+    if (g[field::LUNS] == 4) & ((what == 12) | (what == 30) | (what == 47) | (what == 74)) {
         return 11;
     }
     if (g[field::LUNS] == 1) & (what == 49) {
@@ -340,5 +368,5 @@ pub fn is_legal(what: usize) -> bool {
         | ((43 <= what) & (what <= 46))
         | (what == 53)
         | (what == 54)
-        | (63 <= what)
+        | ((63 <= what) & (what <= 71))
 }
