@@ -1,5 +1,7 @@
 // Power-on: damaged parts, limits, single bytes.
 use power::power_number;
+use test_judge_cycles::put_bad;
+use test_judge_cycles::put_reset;
 use test_judge_parts::field;
 use test_judge_parts::parts::fill_buffers;
 use test_judge_parts::parts::load_knobs;
@@ -21,13 +23,11 @@ use test_judge_parts::state::keep;
 use test_judge_parts::state::number;
 use test_judge_parts::state::one_more;
 use test_judge_parts::state::store;
-use test_judge_runs::running::absorb_blanks;
-use test_judge_runs::running::absorb_buffers;
-use test_judge_runs::running::powered;
-use test_judge_runs::running::run_trace;
-use test_judge_traces::jobs::one_job;
-use test_judge_traces::records::put_bad;
-use test_judge_traces::records::put_reset;
+use test_judge_runs::absorb_blanks;
+use test_judge_runs::absorb_buffers;
+use test_judge_runs::powered;
+use test_judge_runs::run_trace;
+use test_judge_traces::traces::one_job;
 use test_kit::numbers::add;
 use test_kit::numbers::get;
 use test_kit::numbers::power;
