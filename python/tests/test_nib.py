@@ -276,12 +276,13 @@ class Errors(Nib):
             self.assertTrue(error.startswith("nib: no such call; these are:\n  nib demo "), words)
 
     def test_files_that_are_not_there(self) -> None:
+        (self.folder / "empty").mkdir()                 # no part folder: it has no page
         before, there = held(self.part), sorted(path.name for path in self.folder.iterdir())
         large = "an array of 4529848320 bytes is more than the 4194304 that nib holds; python3 -m nibtoggle has no such limit"
         crc = "power-on refused 22: " + nibtoggle.RULES[22]
         for words, told in ((("run", "none"), "none/page: No such file or directory"), (("new", "t1"), "t1/page: File exists"),
                             (("explain", "none"), "none/page: No such file or directory"),
-                            (("page", "none"), "none: No such file or directory"), (("page", "t1"), "t1: Is a directory"),
+                            (("page", "none"), "none: No such file or directory"), (("page", "empty"), "empty: Is a directory"),
                             (("new", "no/such/dir"), "no/such/dir: No such file or directory"), (("new", "x", "crc"), "crc: " + crc),
                             (("new", "x", "large"), "large: " + large), (("new", "x", "none"), "none: No such file or directory"),
                             (("page", "a" * 5000), "a" * 4096 + ": File name too long"), (("new", "crc"), "crc/page: Not a directory")):
