@@ -34,6 +34,7 @@ use Rattle.thm_kept.proofs.Choice.{by-pick}
 use Rattle.thm_steps.proofs.Program.{part-byte}
 use Rattle.thm_steps.proofs.PageOrder.{some-here, none-set}
 use Rattle.thm_steps.proofs.Status.{stored-leaves}
+use Rattle.thm_blank.specs.Walked as statement
 use Rattle.thm_blank.proofs.Walks.{one, own-walk, other-walk, blank-same, walk-few}
 
 -- a byte of a list of zeros
@@ -57,7 +58,7 @@ movesAct act.Move = false
 module _ (g : Geometry) (words : Words) (flags : List ℕ) where
   -- the numbers are the walk's
   abbrev pub Counted : List Lun → List ℕ → Type 0
-  Counted luns counts = (l : ℕ) → l < g .luns → blankAt luns l ≡ blankBlocks g l counts flags
+  Counted luns counts = statement.Counted g luns counts flags
 
   module _ (luns : List Lun) (counts : List ℕ) (four : g .luns ≤ 4) (all : length luns ≡ 4) (full : length counts ≡ g .luns * g .blocks * g .pages)
       (true-so-far : Counted luns counts) where

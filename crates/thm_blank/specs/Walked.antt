@@ -6,6 +6,8 @@ use Prim.Native.Nat.{ℕ, _<_}
 use lib.ListN.{length}
 use Rattle.target.specs.Luns.{blankAt}
 use Rattle.target.specs.declared.Event.{Event}
+use Rattle.target.specs.declared.Geometry.{Geometry}
+use Rattle.target.specs.declared.Lun.{Lun}
 use Rattle.target.specs.declared.Target.{Target}
 use Rattle.blocks.specs.Blocks.{blankBlocks}
 use Rattle.power.specs.Power.{powerAnswer}
@@ -13,9 +15,12 @@ use Rattle.power.specs.declared.PowerAnswer.the-variants.{Accepted}
 use Rattle.step.specs.Step.{State}
 use Rattle.thm_demands.specs.Runs.{after, poweredUp}
 
--- each LUN's number is the walk's
+-- the number of each LUN that exists is the walk's
+abbrev pub Counted : Geometry → List Lun → List ℕ → List ℕ → Type 0
+Counted g luns counts flags = (l : ℕ) → l < g .luns → blankAt luns l ≡ blankBlocks g l counts flags
+
 abbrev pub Walked : Target → List ℕ → List ℕ → Type 0
-Walked t counts flags = (l : ℕ) → l < t .geometry .luns → blankAt (t .luns) l ≡ blankBlocks (t .geometry) l counts flags
+Walked t counts flags = Counted (t .geometry) (t .luns) counts flags
 
 -- after every event of every run from an accepted power-on with its own buffers
 abbrev pub AlwaysWalked : Type 0
