@@ -43,15 +43,15 @@ extern "C" {
 
 /* The version of this header; nib_version() is that of the library, and has the same number: major, minor and patch,
  * a byte each. While major is 0, a change of minor may change the record. */
-#define NIB_VERSION "0.4.0"
-#define NIB_VERSION_NUMBER UINT32_C(1024)
+#define NIB_VERSION "0.5.0"
+#define NIB_VERSION_NUMBER UINT32_C(1280)
 uint32_t nib_version(void);
 
 /* ---- The record ----
  *
  * Plain numbers: it may be copied, stored, compared byte by byte (padding aside) and written to a file for the same
  * kind of machine. A new record is made by nib_power_on, which reads nothing of what was there before. Reading it is
- * welcome; whoever writes to it gets 13, or a target in the state that was written. 128 bytes where size_t has 8. */
+ * welcome; whoever writes to it gets 13, or a target in the state that was written. 136 bytes where size_t has 8. */
 typedef struct nib_target {
     /* The part, as its page says. */
     uint16_t data_bytes;    /* of a page: 16 to 16384 */
@@ -90,6 +90,10 @@ typedef struct nib_target {
     uint8_t copyback[4];    /* by LUN: 35h has read a page, and 85h may program it */
     uint8_t kept;           /* enum nib_output: what was open before a status, for 00h and data out to go on with; never
                                a status */
+    uint16_t blank[4];      /* by LUN: how many blocks have all counts 0 and are not bad; 0 for a LUN that is not there.
+                               Counted at power-on and kept from then on: it moves at 10h and D0h, where they proceed,
+                               and not at the finish. Counts or flags that the caller writes to are not counted again
+                               before the next power-on */
 } nib_target;
 
 /* Features supported, bits of bytes 6 and 7 of the parameter bytes. */

@@ -15,6 +15,7 @@ cd "$(dirname "$0")"
 out=../target/judge
 stored=../crates/test_judge/stdout
 proved=${JUDGED:-../target/bin/test_judge}
+run=../tools/run-x86     # the program is one for x86-64; on Arm the kit's emulator runs it
 ./build.sh build
 
 if [ $# -eq 0 ]; then
@@ -48,7 +49,7 @@ first_difference() {
 }
 
 $plain "$@" > "$out/plain.txt" || true
-"$proved" "$@" > "$out/proved.txt"
+"$run" "$proved" "$@" > "$out/proved.txt"
 if [ $# -eq 0 ] && [ -z "$error" ] && ! cmp -s "$out/plain.txt" "$stored"; then
     echo "DIFFERENT: $stored is not what the C program writes; run compare.sh"
     exit 1
@@ -69,7 +70,7 @@ where=$(sed -n "${n}p" "$out/plain.txt" | awk '/^[0-9]/ { print $1, $2 }')
 # shellcheck disable=SC2086
 $plain -t $where "$@" > "$out/plain-one.txt"
 # shellcheck disable=SC2086
-"$proved" -t $where "$@" > "$out/proved-one.txt"
+"$run" "$proved" -t $where "$@" > "$out/proved-one.txt"
 n=$(first_difference "$out/plain-one.txt" "$out/proved-one.txt")
 echo "part and kind $where; the first difference on the way (trace number, what, four numbers, digest):"
 [ "$n" -le 8 ] || echo "  .."

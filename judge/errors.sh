@@ -96,6 +96,26 @@ a program out of order fails and is done
 only the next page is looked at
 page order whatever feature bit 2 says
 only counts above 1 are looked at
+a program moves the number of blank blocks at its finish
+an erase moves it at its finish
+a program that fails counts a blank block less
+a bad block erased counts one more
+another LUN's number moves
+each program of a block counts one less
+the programmed page's count alone says whether the block was blank
+a copyback's 10h leaves the number
+FFh sets the number to all blocks
+FFh sets the number to 0
+power-on counts bad blocks as blank
+power-on looks at each block's first page alone
+a blank block erased counts one more
+13 lets a number of one more than blocks pass
+13 lets a LUN past the count have a number
+the number does not stop at blocks
+the number wraps below 0
+the number is walked anew at each 10h and D0h
+a 10h or D0h refused by 7 moves the number
+power-on walks LUN 0 for every LUN
 LIST
 }
 

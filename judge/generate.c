@@ -14,6 +14,11 @@
 #include <stdlib.h>
 #include <string.h>
 
+/* Not to be ported: what the C program alone looks at, which draws nothing and prints no line. */
+static bool holding = true;             /* the number of blank blocks is held to a walk; not with -x */
+static bool number_true;                /* no lie in the record, nor counts or flags that power-on has not seen */
+static uint64_t line_now;
+
 /* ---- Random numbers and digests ---- */
 
 static uint64_t below(uint64_t *g, uint64_t n)
@@ -1286,7 +1291,17 @@ static void absorb_rest(const struct plain_target *t, uint64_t *g, const uint8_t
     show(g, "rest", which, start, length, 0);
 }
 
-/* The record's numbers that no reply need show: which LUNs have a copyback open, and what a status keeps. */
+/* The number of blank blocks that the record keeps, by LUN. */
+static void absorb_blanks(const struct plain_target *t, uint64_t *g)
+{
+    const struct plain_lun *l = t->lun;
+    for (uint64_t i = 0; i < PLAIN_MAX_LUNS; i++)
+        absorb(g, l[i].blank);
+    show(g, "blanks", l[0].blank, l[1].blank, l[2].blank, l[3].blank);
+}
+
+/* The record's numbers that no reply need show: which LUNs have a copyback open, what a status keeps, and the blank
+ * blocks. */
 static void absorb_record(const struct plain_target *t, uint64_t *g)
 {
     const struct plain_lun *l = t->lun;
@@ -1298,6 +1313,7 @@ static void absorb_record(const struct plain_target *t, uint64_t *g)
     absorb(g, kept->lun);
     absorb(g, kept->next);
     show(g, "kept", kept->kind, kept->lun, kept->next, 0);
+    absorb_blanks(t, g);
 }
 
 static void set_output(struct plain_target *t, uint8_t kind, uint64_t lun, uint64_t next)
@@ -1337,6 +1353,11 @@ static void spoil_number(struct plain_target *t, uint64_t what)
     case 48: t->features |= 1; break;
     case 49: t->features &= 0xFFFD; break;
     case 54: t->lun[t->luns - 1].copyback = true; break;    /* legal, with the option or without */
+    case 70: t->lun[0].blank = 0; break;                    /* legal */
+    case 71: t->lun[t->luns - 1].blank = t->blocks; break;  /* legal */
+    case 72: t->lun[0].blank = t->blocks + 1; break;
+    case 73: t->lun[t->luns - 1].blank = t->blocks + 1; break;
+    case 74: t->lun[3].blank = 1; break;
     default: break;
     }
 }
@@ -1474,7 +1495,7 @@ static uint64_t fills_bits(uint64_t n)
 static uint64_t pick_spoil(uint64_t *g)
 {
     uint64_t what = below(g, SPOILS);
-    if (g[G_FIELD + F_LUNS] == 4 && (what == 12 || what == 30 || what == 47))
+    if (g[G_FIELD + F_LUNS] == 4 && (what == 12 || what == 30 || what == 47 || what == 74))
         what = 11;
     if (g[G_FIELD + F_LUNS] == 1 && what == 49)
         what = 48;
@@ -1493,7 +1514,7 @@ static uint64_t is_legal(uint64_t what)
         return 1;
     if (what == 53 || what == 54)
         return 1;
-    if (what >= 63)
+    if (what >= 63 && what <= 71)
         return 1;
     return 0;
 }
@@ -1530,8 +1551,71 @@ static void run_spoiled(const struct plain_target *t, uint64_t *g, uint8_t *repl
     if (g[G_REFUSED + 13] != due)
         g[G_SURPRISES] = g[G_SURPRISES] + 1;
     run_batch(&c, g, records, 0, 3, replies, page, array, registers, counts, flags);
+    absorb_blanks(&c, g);
     measure(g);
 }
+
+/* One time in eight the record itself gets an untrue number of blank blocks that 13 lets pass, 0 or all, and the trace
+ * goes on with it: so programs meet a number that stops at 0, and erases one that stops at all. */
+static void lie_blank(struct plain_target *t, uint64_t *g)
+{
+    uint64_t what = below(g, 16);
+    uint64_t lun = pick_lun(g);
+    if (what > 1)
+        return;
+    uint64_t number = what * g[G_FIELD + F_BLOCKS];
+    t->lun[lun].blank = (uint32_t)number;
+    show(g, "lie", lun, number, 0, 0);
+    number_true = false;
+}
+
+/* ---- In C alone: the number of blank blocks that is kept is the one that a walk gives ---- */
+
+static void walk(const struct plain_target *t, const uint8_t *counts, const uint8_t *flags, uint32_t *walked)
+{
+    for (uint32_t lun = 0; lun < PLAIN_MAX_LUNS; lun++)
+        walked[lun] = plain_blank_walk(t, lun, counts, flags);
+}
+
+static void hold(const struct plain_target *t, const uint64_t *g, uint64_t at, const uint32_t *walked)
+{
+    for (uint32_t lun = 0; lun < PLAIN_MAX_LUNS; lun++) {
+        uint32_t kept = t->lun[lun].blank;
+        if (kept == walked[lun])
+            continue;
+        fprintf(stderr, "generate: part %" PRIu64 " kind %" PRIu64 " trace %" PRIu64 " record %" PRIu64 ": LUN %" PRIu32
+                " keeps %" PRIu32 " blank blocks and has %" PRIu32 "\n",
+                line_now / KINDS, line_now % KINDS, g[G_TRACE], at / 2, lun, kept, walked[lun]);
+        exit(1);
+    }
+}
+
+/* Before the records and after each: they are run one by one on a copy with buffers of its own, where array and
+ * registers may hold anything. Walked again only where a count has changed. */
+static void hold_records(const struct plain_target *t, const uint64_t *g, const uint8_t *records, uint64_t at,
+                         uint64_t bytes, const uint8_t *page, const uint8_t *counts, const uint8_t *flags)
+{
+    static uint8_t array[MAX_ARRAY], registers[MAX_REGISTERS], own[MAX_COUNTS], seen[MAX_COUNTS];
+    struct plain_target c = *t;
+    uint32_t walked[PLAIN_MAX_LUNS];
+    if (!number_true)
+        return;
+    memcpy(own, counts, g[G_COUNTS_LEN]);
+    memcpy(seen, counts, g[G_COUNTS_LEN]);
+    walk(&c, own, flags, walked);
+    hold(&c, g, at, walked);
+    for (uint64_t i = at; i < at + bytes; i = i + 2) {
+        plain_event(&c, records[i], records[i + 1], page, g[G_PAGE_LEN], array, g[G_ARRAY_LEN],
+                    registers, g[G_REGISTERS_LEN], own, g[G_COUNTS_LEN], flags, g[G_FLAGS_LEN]);
+        if (memcmp(own, seen, g[G_COUNTS_LEN]) != 0) {
+            memcpy(seen, own, g[G_COUNTS_LEN]);
+            walk(&c, own, flags, walked);
+        }
+        hold(&c, g, i, walked);
+    }
+}
+
+/* ---- Whole traces ---- */
 
 /* Batches of 'step' bytes; with a step of one record, event by event. */
 static void run_trace(struct plain_target *t, uint64_t *g, const uint8_t *records,
@@ -1545,6 +1629,7 @@ static void run_trace(struct plain_target *t, uint64_t *g, const uint8_t *record
         uint64_t odd = 0;
         if (at + bytes < g[G_LEN])      /* the odd byte is the next record's first */
             odd = chance(g, g[G_KNOB + K_ODD]);
+        hold_records(t, g, records, at, bytes, page, counts, flags);
         if (step == 2)
             run_single(t, g, records, at, page, array, registers, counts, flags);
         else
@@ -1552,8 +1637,10 @@ static void run_trace(struct plain_target *t, uint64_t *g, const uint8_t *record
                       flags);
         absorb_rest(t, g, page, registers);
         absorb_record(t, g);
-        if (chance(g, g[G_KNOB + K_SPOIL]) == 1)
+        if (chance(g, g[G_KNOB + K_SPOIL]) == 1) {
             run_spoiled(t, g, replies, page, array, registers, counts, flags);
+            lie_blank(t, g);
+        }
         at = at + bytes;
     }
 }
@@ -1605,9 +1692,11 @@ static void power_up(struct plain_target *t, uint64_t *g, uint64_t kind, uint8_t
     absorb(g, r);
     absorb_bytes(g, registers, 0, g[G_REGISTERS_LEN]);
     show(g, "power", r, 0, 0, 0);
+    absorb_blanks(t, g);
     g[G_BUSY] = 0;
     g[G_SELECTED] = 0;
     change_contents(g, kind, page, counts, flags);
+    number_true = holding && kind != 14;
 }
 
 /* All traces of one part and one kind. */
@@ -1709,6 +1798,8 @@ static void power_case(struct plain_target *t, uint64_t *g, uint8_t *records, ui
     g[G_REFUSED + r] = g[G_REFUSED + r] + 1;
     absorb_buffers(g, array, registers, counts, flags);
     show(g, "power", r, 0, 0, 0);
+    absorb_blanks(t, g);
+    number_true = holding && r == 0;
     g[G_LEN] = 0;
     put_reset(g, records);
     if (r == 0)
@@ -1866,7 +1957,9 @@ static void print_totals(const uint64_t *total)
  *   rest WHICH START LENGTH 0   the unread rest
  *   copybacks OPEN OPEN OPEN OPEN   by LUN, 1 where one is open
  *   kept KIND LUN NEXT 0        what a status keeps: the kind as in plain.h, 0 nothing
- *   spoil WHAT FOLLOW 0 0       what follows is on a spoiled copy
+ *   blanks N N N N              blank blocks as the record keeps them, by LUN
+ *   spoil WHAT FOLLOW 0 0       what follows is on a spoiled copy, up to and with its blanks
+ *   lie LUN NUMBER 0 0          from now on the record has this number of blank blocks
  *   buffers 0 0 0 0             the end of the trace
  * and last the first digest. A reply is its first byte times 256 plus the second. */
 int main(int argc, char **argv)
@@ -1889,6 +1982,7 @@ int main(int argc, char **argv)
         seed = strtoull(argv[at++], NULL, 10);
     if (at < argc)
         count = strtoull(argv[at++], NULL, 10);
+    holding = error == 0;
 #ifdef PLAIN_ERRORS
     plain_error = (unsigned)error;
 #else
@@ -1904,6 +1998,7 @@ int main(int argc, char **argv)
     for (uint64_t line = 0; line < LINES; line++) {
         uint64_t g[G_NUMBERS] = {0};
         uint64_t part = line / KINDS, kind = line % KINDS;
+        line_now = line;
         if (only != LINES && only != line)
             continue;
         if (only == line)

@@ -11,7 +11,7 @@ enum {
     KINDS = 17,                 /* kinds of traces */
     POWER_KINDS = 4,            /* kinds of power-on cases */
     LINES = PARTS * KINDS + POWER_KINDS,
-    SPOILS = 70,
+    SPOILS = 75,
     MAX_PAGE = 260,             /* room for a length of 257 */
     MAX_ARRAY = 131072,
     MAX_REGISTERS = 36864,

@@ -99,8 +99,11 @@ static bool luns_usable(const struct plain_target *t)
 {
     if (t->selected >= t->luns)
         return false;
+    for (uint32_t l = 0; l < t->luns; l++)
+        if (t->lun[l].blank > ERR(100, t->blocks + 1, t->blocks))
+            return false;
     for (uint32_t l = t->luns; l < PLAIN_MAX_LUNS; l++)
-        if (t->lun[l].working || t->lun[l].fail || t->lun[l].copyback)
+        if (t->lun[l].working || t->lun[l].fail || t->lun[l].copyback || ERR(101, false, t->lun[l].blank != 0))
             return false;
     return true;
 }
@@ -201,6 +204,44 @@ static uint8_t *register_of(const struct plain_target *t, const struct lent *b, 
 static size_t block_index(const struct plain_target *t, uint32_t lun, uint32_t block)
 {
     return (size_t)lun * t->blocks + block;
+}
+
+/* ---- Blank blocks ---- */
+
+/* All of these counts are 0. */
+static bool unwritten(const uint8_t *counts, uint32_t pages)
+{
+    for (uint32_t page = 0; page < pages; page++)
+        if (counts[page] != 0)
+            return false;
+    return true;
+}
+
+uint32_t plain_blank_walk(const struct plain_target *t, uint32_t lun, const uint8_t *counts, const uint8_t *flags)
+{
+    uint32_t blank = 0;
+    for (uint32_t block = 0; lun < t->luns && block < t->blocks; block++) {
+        size_t at = block_index(t, ERR(106, 0, lun), block);
+        bool good = ERR(97, true, flags[at] == 0);
+        if (good && unwritten(counts + at * t->pages, ERR(98, 1, t->pages)))
+            blank++;
+    }
+    return blank;
+}
+
+/* A lent record, or lent counts, may make the number untrue: it stops at 0 and at blocks. */
+static void one_blank_less(struct plain_target *t, uint32_t lun)
+{
+    struct plain_lun *l = &t->lun[ERR(91, (lun + 1) % t->luns, lun)];
+    if (ERR(103, true, l->blank > 0))
+        l->blank--;
+}
+
+static void one_blank_more(struct plain_target *t, uint32_t lun)
+{
+    struct plain_lun *l = &t->lun[ERR(91, (lun + 1) % t->luns, lun)];
+    if (ERR(102, true, l->blank < t->blocks))
+        l->blank++;
 }
 
 /* ---- Small parts of a step ---- */
@@ -416,10 +457,13 @@ static uint32_t program_start(struct plain_target *t, const struct lent *b)
     bool copyback = s.kind == PLAIN_SEQ_COPYBACK;
     if (ERR(55, !t->line_high && copyback, false))
         t->lun[s.lun].copyback = false;
-    if (!t->line_high)
-        return REFUSED(7);
     size_t block = block_index(t, s.lun, s.block);
     size_t page = block * t->pages + s.page;
+    bool blank = unwritten(b->counts + block * t->pages, t->pages);
+    if (ERR(105, !t->line_high && blank, false))
+        one_blank_less(t, s.lun);
+    if (!t->line_high)
+        return REFUSED(7);
     bool late = out_of_order(t, b, &s) && ERR(82, !copyback, true);
     bool fail = b->flags[block] != 0
         || b->counts[page] >= ERR(9, t->programs + 1, t->programs)
@@ -431,6 +475,11 @@ static uint32_t program_start(struct plain_target *t, const struct lent *b)
             cells[i] = ERR(3, from[i], cells[i] & from[i]);
         b->counts[page]++;
     }
+    if (ERR(89, fail, false) || (!fail && ERR(92, true, ERR(93, b->counts[page] == 1, blank))
+                                 && ERR(87, false, true) && ERR(94, !copyback, true)))
+        one_blank_less(t, s.lun);
+    if (ERR(104, true, false))
+        t->lun[s.lun].blank = plain_blank_walk(t, s.lun, b->counts, b->flags);
     if (copyback && ERR(39, false, true) && ERR(48, !fail, true))
         t->lun[s.lun].copyback = false;
     start_work(t, s.lun, fail);
@@ -441,10 +490,13 @@ static uint32_t erase_start(struct plain_target *t, const struct lent *b)
 {
     if (!complete(t, PLAIN_SEQ_ERASE))
         return REFUSED(3);
-    if (!t->line_high)
-        return REFUSED(7);
     struct plain_sequence s = t->sequence;
     size_t block = block_index(t, s.lun, s.block);
+    bool blank = unwritten(b->counts + block * t->pages, t->pages);
+    if (ERR(105, !t->line_high && !blank, false))
+        one_blank_more(t, s.lun);
+    if (!t->line_high)
+        return REFUSED(7);
     bool fail = b->flags[block] != 0;
     if (!fail) {
         size_t bytes = (size_t)t->pages * t->page_size;
@@ -452,6 +504,10 @@ static uint32_t erase_start(struct plain_target *t, const struct lent *b)
         if (ERR(23, false, true))
             memset(b->counts + block * t->pages, 0, t->pages);
     }
+    if (ERR(90, fail, false) || (!fail && ERR(99, true, !blank) && ERR(88, false, true)))
+        one_blank_more(t, s.lun);
+    if (ERR(104, true, false))
+        t->lun[s.lun].blank = plain_blank_walk(t, s.lun, b->counts, b->flags);
     t->lun[s.lun].copyback = ERR(46, t->lun[s.lun].copyback, false);
     start_work(t, s.lun, fail);
     return ACCEPTED;
@@ -493,8 +549,13 @@ static uint32_t copyback_command(struct plain_target *t, const struct lent *b)
 static uint32_t reset(struct plain_target *t, const struct lent *b)
 {
     memset(b->registers, 0xFF, b->registers_len);
-    for (uint32_t l = 0; l < t->luns; l++)
-        t->lun[l] = (struct plain_lun){.copyback = ERR(47, t->lun[l].copyback, false)};
+    for (uint32_t l = 0; l < t->luns; l++) {        /* the counts stay, and so does the number of blank blocks */
+        t->lun[l].working = false;
+        t->lun[l].fail = false;
+        t->lun[l].copyback = ERR(47, t->lun[l].copyback, false);
+        if (ERR(95, true, ERR(96, true, false)))
+            t->lun[l].blank = ERR(95, t->blocks, 0);
+    }
     close_sequence(t);
     t->output = (struct plain_output){0};
     if (ERR(72, false, true))
@@ -772,10 +833,12 @@ static uint32_t data_out(struct plain_target *t, const struct lent *b)
 
 /* ---- Bench events ---- */
 
-static uint32_t finish(struct plain_target *t, uint8_t lun)
+static uint32_t finish(struct plain_target *t, const struct lent *b, uint8_t lun)
 {
     if (lun >= t->luns || !t->lun[lun].working)
         return REFUSED(10);
+    if (ERR(87, true, ERR(88, true, false)))
+        t->lun[lun].blank = plain_blank_walk(t, lun, b->counts, b->flags);
     t->lun[ERR(14, t->selected, lun)].working = false;
     if (ERR(31, true, false))
         t->output = (struct plain_output){0};
@@ -808,9 +871,9 @@ static uint32_t bus_cycle(struct plain_target *t, const struct lent *b, uint8_t 
     }
 }
 
-static uint32_t bench_event(struct plain_target *t, uint8_t kind, uint8_t value)
+static uint32_t bench_event(struct plain_target *t, const struct lent *b, uint8_t kind, uint8_t value)
 {
-    uint32_t reply = kind == 4 ? finish(t, value) : protect(t, value);
+    uint32_t reply = kind == 4 ? finish(t, b, value) : protect(t, value);
     if (ERR(62, reply != ACCEPTED, ERR(76, reply == ACCEPTED, false)))
         forget(t);
     return reply;
@@ -826,7 +889,7 @@ static uint32_t step(struct plain_target *t, const struct lent *b, uint8_t kind,
         return REFUSED(12);
     }
     if (kind == 4 || kind == 5)
-        return bench_event(t, kind, value);
+        return bench_event(t, b, kind, value);
     uint32_t reply = bus_cycle(t, b, kind, value);
     if (reply >= REFUSED(0))
         drop(t);
@@ -918,6 +981,8 @@ uint32_t plain_power_on(struct plain_target *t,
     n.powered = true;
     n.device = device_id;
     n.line_high = true;
+    for (uint32_t l = 0; l < n.luns; l++)
+        n.lun[l].blank = plain_blank_walk(&n, l, counts, flags);
     *t = n;
     return 0;
 }

@@ -1,5 +1,5 @@
-/* The plain model of the NAND target of document 01, with copyback (A1), polling loaders (A2) and page order (A4): one
- * struct, one switch. It is written from the documents alone, to judge the proved model by. */
+/* The plain model of the NAND target of document 01, with copyback (A1), polling loaders (A2), page order (A4) and
+ * blank blocks (A7): one struct, one switch. It is written from the documents alone, to judge the proved model by. */
 #ifndef PLAIN_H
 #define PLAIN_H
 
@@ -44,6 +44,7 @@ struct plain_lun {
     bool working;
     bool fail;
     bool copyback;              /* opened by 35h */
+    uint32_t blank;             /* blocks with all counts 0 that are not bad: walked at power-on, then kept */
 };
 
 /* A whole row is kept as its fields, so that each number has its own range. */
@@ -118,6 +119,10 @@ uint32_t plain_trace(struct plain_target *t, const uint8_t *records, size_t n,
  * buffers lent, so [13] looks at the record and at these two lengths. */
 uint32_t plain_rest(const struct plain_target *t, size_t page_len, size_t registers_len,
                     size_t *start, size_t *length);
+
+/* The blank blocks of a LUN, counted: what the record keeps, where it and the buffers have been this model's alone.
+ * 0 for a LUN that there isn't. */
+uint32_t plain_blank_walk(const struct plain_target *t, uint32_t lun, const uint8_t *counts, const uint8_t *flags);
 
 #ifdef PLAIN_ERRORS
 extern unsigned plain_error;    /* which builder's error is on, 0 none */

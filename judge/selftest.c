@@ -391,6 +391,152 @@ static void page_order(struct bench *b)
     check(b->counts[0] == 1, "any order");
 }
 
+/* The numbers that LUNs 0 and 1 keep; the others have none. */
+static void blank(struct bench *b, uint32_t zero, uint32_t one, const char *what)
+{
+    const struct plain_lun *l = b->t.lun;
+    check(l[0].blank == zero && l[1].blank == one && l[2].blank == 0 && l[3].blank == 0, what);
+}
+
+/* The same, and a walk gives them too. */
+static void blank_walked(struct bench *b, uint32_t zero, uint32_t one, const char *what)
+{
+    blank(b, zero, one, what);
+    check(plain_blank_walk(&b->t, 0, b->counts, b->flags) == zero
+          && plain_blank_walk(&b->t, 1, b->counts, b->flags) == one
+          && plain_blank_walk(&b->t, 2, b->counts, b->flags) == 0, what);
+}
+
+/* Part W of the worked sequences. */
+static void make_w(struct bench *b, uint32_t programs)
+{
+    make_bench(b, 512, 16, 4, 8, 2, programs, 0x010E, 0x005D);
+}
+
+/* 80h .. 10h of a row below 256 with no data, and 60h .. D0h, none of it refused. */
+static void program_row(struct bench *b, unsigned row)
+{
+    char records[64];
+    snprintf(records, sizeof records, "0080 0100 0100 01%02X 0100 0100 0010", row);
+    run(b, records, "0000 0000 0000 0000 0000 0000 0000", "a program");
+}
+
+static void erase_row(struct bench *b, unsigned row)
+{
+    char records[64];
+    snprintf(records, sizeof records, "0060 01%02X 0100 0100 00D0", row);
+    run(b, records, "0000 0000 0000 0000 0000", "an erase");
+}
+
+static void blank_blocks(struct bench *b)
+{
+    make_w(b, 4);
+    blank_walked(b, 8, 8, "all blank at power-on");
+    run(b, "00FF", "0000", "FFh");
+    blank_walked(b, 8, 8, "FFh");
+    run(b, "0080 0100 0100 0100 0100 0100", "0000 0000 0000 0000 0000 0000", "80h's row");
+    blank_walked(b, 8, 8, "not at the row");
+    run(b, "0010", "0000", "10h");
+    blank_walked(b, 7, 8, "at 10h");
+    run(b, "0400", "0000", "finish");
+    blank_walked(b, 7, 8, "not at the finish");
+    program_row(b, 1);
+    blank_walked(b, 7, 8, "another page of the block");
+    run(b, "0400", "0000", "finish");
+    erase_row(b, 2);
+    blank_walked(b, 8, 8, "at D0h");
+    run(b, "0400", "0000", "finish");
+    blank_walked(b, 8, 8, "not at its finish");
+
+    make_w(b, 4);
+    run(b, "00FF", "0000", "FFh");
+    program_row(b, 0);
+    run(b, "0400 0080 0100 0100 0104 0100 0100 0201 0070", "0000 0000 0000 0000 0000 0000 0000 0000 0203", "given up");
+    blank_walked(b, 7, 8, "given up");
+    run(b, "0500 0080 0100 0100 0120 0100 0100 0010", "0000 0000 0000 0000 0000 0000 0000 0207", "line low");
+    blank_walked(b, 7, 8, "line low");
+    run(b, "0060 0100 0100 0100 00D0", "0000 0000 0000 0000 0207", "an erase, line low");
+    blank_walked(b, 7, 8, "an erase, line low");
+
+    make_w(b, 1);
+    b->flags[1] = 1;
+    check(power(b) == 0, "power-on with a bad block");
+    blank_walked(b, 7, 8, "a bad block is not blank");
+    run(b, "00FF", "0000", "FFh");
+    program_row(b, 4);
+    blank_walked(b, 7, 8, "a bad block programmed");
+    run(b, "0400", "0000", "finish");
+    erase_row(b, 4);
+    blank_walked(b, 7, 8, "a bad block erased");
+    run(b, "0400", "0000", "finish");
+    program_row(b, 0);
+    blank_walked(b, 6, 8, "a good one programmed");
+    run(b, "0400", "0000", "finish");
+    program_row(b, 0);
+    blank_walked(b, 6, 8, "a full page");
+
+    make_w(b, 4);
+    run(b, "00FF", "0000", "FFh");
+    program_row(b, 0x20);
+    blank_walked(b, 8, 7, "LUN 1");
+    run(b, "00FF", "0000", "FFh while it works");
+    blank_walked(b, 8, 7, "FFh keeps the number");
+    erase_row(b, 0x1C);
+    blank_walked(b, 8, 7, "a blank block erased");
+
+    make_w(b, 4);
+    b->counts[3] = 1;
+    b->flags[1] = 1;
+    check(power(b) == 0, "power-on with a count and a bad block");
+    blank_walked(b, 6, 8, "from power-on");
+    b->flags_len++;
+    check(power(b) == 24, "a refused power-on");
+    blank(b, 0, 0, "leaves no number");
+}
+
+/* A record or counts that were lent: the number may be untrue, and stops at its ends. */
+static void blank_lent(struct bench *b)
+{
+    make_w(b, 4);
+    run(b, "00FF", "0000", "FFh");
+    b->t.lun[0].blank = 0;
+    program_row(b, 0);
+    blank(b, 0, 8, "written to 0, then a program of a blank block");
+    b->t.lun[0].blank = 8;
+    run(b, "0400", "0000", "finish");
+    erase_row(b, 0);
+    blank(b, 8, 8, "written to 8, then an erase of a block that was not blank");
+    b->t.lun[0].blank = 9;
+    run(b, "00FF 0070 0100 0200 0300 0400 0501 0700 00",
+        "020D 020D 020D 020D 020D 020D 020D 020D 020D", "written to 9, every event is 13");
+    rest(b, 0, 0, 0, "and there is no rest");
+    blank(b, 9, 8, "13 changes nothing");
+    b->t.lun[0].blank = 3;
+    run(b, "0400", "0000", "written to 3, the finish is accepted");
+    program_row(b, 0);
+    blank(b, 2, 8, "from there it moves as ever");
+    run(b, "00FF", "0000", "FFh");
+    blank(b, 2, 8, "and FFh keeps it");
+
+    make_w(b, 4);
+    run(b, "00FF", "0000", "FFh");
+    memset(b->counts, 1, b->counts_len);
+    erase_row(b, 0);
+    blank(b, 8, 8, "counts lent, then an erase");
+    b->flags[1] = 1;
+    b->counts[0] = b->counts[4] = b->counts[5] = b->counts[6] = b->counts[7] = 0;
+    run(b, "0400", "0000", "finish");
+    program_row(b, 4);
+    blank(b, 8, 8, "a block lent bad does not proceed");
+    run(b, "0400", "0000", "finish");
+    program_row(b, 0);
+    blank(b, 7, 8, "the counts as they are at the 10h decide");
+    b->flags[1] = 0;
+    run(b, "0400", "0000", "finish");
+    program_row(b, 4);
+    blank(b, 6, 8, "and the flag");
+}
+
 static uint32_t refused_with(struct bench *b, unsigned at, unsigned bytes, uint32_t n)
 {
     make_page(b->page, 512, 16, 4, 8, 2, 4, ALL_FEATURES, ALL_OPTIONS);
@@ -449,6 +595,26 @@ static void numbers(struct bench *b)
     usable(b, true, "a copyback open without optional bit 4");
     b->t.lun[2].copyback = true;
     usable(b, false, "a copyback of a LUN past the count");
+
+    for (unsigned lun = 0; lun < 2; lun++) {
+        make_t1(b);
+        b->t.lun[lun].blank = 0;
+        usable(b, true, "no blank block");
+        b->t.lun[lun].blank = 8;
+        usable(b, true, "8 of 8 blank");
+        b->t.lun[lun].blank = 9;
+        usable(b, false, "9 of 8");
+        b->t.lun[lun].blank = UINT32_MAX;
+        usable(b, false, "one less than 0");
+        make_t1(b);
+        b->t.lun[2 + lun].blank = 1;
+        usable(b, false, "a blank block of a LUN past the count");
+    }
+    make_bench(b, 16, 0, 1, 1, 1, 1, 0, 0);
+    b->t.lun[0].blank = 1;
+    usable(b, true, "1 of 1 blank");
+    b->t.lun[1].blank = 1;
+    usable(b, false, "a second LUN's where there is one");
 
     make_t1(b);
     b->t.sequence = (struct plain_sequence){.kind = PLAIN_SEQ_COPYBACK, .cycles = 5, .column = 528};
@@ -514,6 +680,8 @@ int main(void)
     rows(&b);
     programs(&b);
     page_order(&b);
+    blank_blocks(&b);
+    blank_lent(&b);
     power_ons(&b);
     numbers(&b);
     kept_numbers(&b);

@@ -5,6 +5,8 @@
  *   # part NAME NUMBERS   that part is not quite W: features or optional WORD (hex), programs N, count or flag PLACE N
  *   EVENTS # ANSWERS      a line of the trace; for each event a dot (accepted), two hex digits (a byte), xx (any byte)
  *                         or rN (refused)
+ *   EVENTS # ANSWERS blank N, N   the same, and when the line has been run the record keeps these numbers of blank
+ *                         blocks, LUN 0's and LUN 1's, and a walk gives them too; they end the line
  * Other lines that begin with # are remarks. A file that breaks this form ends the program with 2. */
 #include "bench.h"
 
@@ -13,6 +15,7 @@
 
 enum { LINE = 256, MOST = 600 };        /* characters of a line, bytes of records or replies */
 enum { ANY = 9 };                       /* first byte of an answer: any byte will do */
+enum { LUNS = 2, BLOCKS = 8 };          /* of W */
 
 /* What a case may change of part W. */
 struct part {
@@ -23,7 +26,7 @@ struct part {
 static const struct part W = {.features = 0x010E, .optional = 0x005D, .programs = 4};
 
 static const char *file;                /* being read, and which line of it */
-static unsigned line_number, cases, lines;
+static unsigned line_number, cases, lines, numbered;
 
 static void bad(const char *what, const char *word)
 {
@@ -71,7 +74,7 @@ static void make_part(struct bench *b, const struct part *p)
 {
     static const uint8_t reset[2] = {0, 0xFF};
     uint8_t got[3];
-    make_bench(b, 512, 16, 4, 8, 2, p->programs, p->features, p->optional);
+    make_bench(b, 512, 16, 4, BLOCKS, LUNS, p->programs, p->features, p->optional);
     memcpy(b->counts, p->counts, sizeof p->counts);
     memcpy(b->flags, p->flags, sizeof p->flags);
     check(power(b) == 0, "power-on with the case's counts and flags");
@@ -105,11 +108,27 @@ static size_t read_events(char *text, uint8_t *to)
     return n;
 }
 
-/* The answers to replies; how many bytes. */
-static size_t read_answers(char *text, uint8_t *to)
+/* The words after 'blank': a number for each LUN, and no more. */
+static void read_blank(unsigned *blank)
+{
+    for (unsigned lun = 0; lun < LUNS; lun++)
+        blank[lun] = number(strtok(NULL, lun + 1 < LUNS ? " ," : " \n"), 10, BLOCKS);
+    const char *more = next_word();
+    if (more != NULL)
+        bad("more than the numbers of blank blocks", more);
+}
+
+/* The answers to replies; how many bytes. 'told': the line ends in numbers of blank blocks. */
+static size_t read_answers(char *text, uint8_t *to, bool *told, unsigned *blank)
 {
     size_t n = 0;
+    *told = false;
     for (const char *w = strtok(text, " \n"); w != NULL; w = next_word()) {
+        if (strcmp(w, "blank") == 0) {
+            *told = true;
+            read_blank(blank);
+            break;
+        }
         size_t dots = strspn(w, ".");
         if (n + 2 * dots + 2 > MOST || (dots != 0 && w[dots] != 0))
             bad("a line too long, or not an answer", w);
@@ -140,14 +159,28 @@ static void print_replies(const char *what, const uint8_t *replies, size_t n)
     printf("\n");
 }
 
+/* Kept, and walked. */
+static void check_blank(const struct bench *b, const unsigned *blank)
+{
+    numbered++;
+    for (unsigned lun = 0; lun < LUNS; lun++) {
+        unsigned kept = b->t.lun[lun].blank, walked = plain_blank_walk(&b->t, lun, b->counts, b->flags);
+        check(kept == blank[lun] && walked == blank[lun], "blank blocks");
+        if (kept != blank[lun] || walked != blank[lun])
+            printf("  %s:%u: LUN %u: due %u, kept %u, walked %u\n", file, line_number, lun, blank[lun], kept, walked);
+    }
+}
+
 static void run_line(struct bench *b, char *text)
 {
     uint8_t in[MOST], want[MOST], got[MOST + 1];
+    unsigned blank[LUNS];
+    bool told;
     char *answers = strchr(text, '#');
     if (answers == NULL)
         bad("no answers", text);
     *answers++ = 0;
-    size_t n = read_events(text, in), w = read_answers(answers, want);
+    size_t n = read_events(text, in), w = read_answers(answers, want, &told, blank);
     bool ran = run_records(b, in, n, got);
     bool ok = ran && w == n && as_due(want, got, n);
 
@@ -158,6 +191,8 @@ static void run_line(struct bench *b, char *text)
         print_replies("due", want, w);
         print_replies("got", got, n);
     }
+    if (told)
+        check_blank(b, blank);
 }
 
 static void run_file(void)
@@ -204,6 +239,7 @@ int main(int argc, char **argv)
         file = argv[i];
         run_file();
     }
-    printf("%u worked sequences, %u lines, %u checks, %u wrong\n", cases, lines, checks, wrong);
+    printf("%u worked sequences, %u lines, %u with blank blocks, %u checks, %u wrong\n", cases, lines, numbered, checks,
+           wrong);
     return wrong != 0 || lines == 0;
 }

@@ -21,7 +21,7 @@ from .replies import RULES, NotReady, Refused, Replies, Reply, Status
 from .text import BadWord, records_of, text_of
 
 #: As VERSION has it; tools/version sets it everywhere.
-__version__ = "0.4.0"
+__version__ = "0.5.0"
 
 __all__ = [
     "BadWord",

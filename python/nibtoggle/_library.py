@@ -34,6 +34,7 @@ class Target(ctypes.Structure):
     ] + [
         ("copyback", _byte * 4),
         ("kept", _byte),
+        ("blank", ctypes.c_uint16 * 4),
     ]
 
 

@@ -218,6 +218,12 @@ class Bench:
         """A copyback is open on the LUN: `copyback_read` has read a page, and `copyback_program` may program it."""
         return bool(self._target.copyback[checks.lun(self.part, lun)] == 1)
 
+    def blank(self, lun: int) -> int:
+        """How many blocks of the LUN have all counts 0 and are not bad. It is counted at power-on and kept from then
+        on: a program of a blank block takes one away at its 10h, an erase of one that is not adds one at its D0h, where
+        they proceed. What you write to `counts` or `flags` yourself is counted at the next `power_on`."""
+        return int(self._target.blank[checks.lun(self.part, lun)])
+
     # ---- calls of the library
 
     def power_on(self) -> int:

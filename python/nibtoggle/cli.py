@@ -23,7 +23,7 @@ USAGE = """\
   nibtoggle parts                  the parts that have a name
   nibtoggle run DIR < TRACE        replies on standard output; the folder is brought up to date
   nibtoggle explain DIR < TRACE    the same in words; the folder stays as it is
-  nibtoggle page FILE              what a parameter page says, and power-on's answer
+  nibtoggle page FILE or DIR       what a parameter page says, and power-on's answer; of a folder its blank blocks too
   nibtoggle dump DIR LUN BLOCK PAGE   a page of the array; the folder stays as it is
   nibtoggle diff DIR DIR           where two parts differ; status 3 if they do
   nibtoggle text < TEXT > TRACE    a trace from text, as: c 80  a 00 00 37 00 00  d 3c  o 16  f 1  p 0
@@ -88,8 +88,17 @@ def known(words: Sequence[str], out: TextIO) -> int:
     return OK
 
 
+def _blank_words(path: str) -> str:
+    """How many blocks of each LUN are blank, as power-on counts them in the folder."""
+    bench = _open(path)
+    said = ", ".join("LUN %d: %d" % (lun, bench.blank(lun)) for lun in range(bench.part.luns))
+    bench.close()
+    return said
+
+
 def page(words: Sequence[str], out: TextIO) -> int:
-    path = Path(words[0])
+    in_folder = words[0] not in parts.PARTS and Path(words[0]).is_dir()
+    path = Path(words[0]) / "page" if in_folder else Path(words[0])
     bytes_ = parts.PARTS[words[0]].page if words[0] in parts.PARTS else _page_in(path)
     refused = page_refusal(bytes_)
     if refused is not None and refused.number == 20:
@@ -116,6 +125,8 @@ def page(words: Sequence[str], out: TextIO) -> int:
         said = library.words(library.say_reply, 2, refused.number, 0)
     for name, value in lines + [("power-on", said)]:
         out.write("%-18s %s\n" % (name, value))
+    if in_folder and refused is None:
+        out.write("%-18s %s\n" % ("blank blocks", _blank_words(words[0])))
     return OK
 
 

@@ -9,7 +9,7 @@ import sys
 import tempfile
 import unittest
 from pathlib import Path
-from typing import Callable
+from typing import Callable, List
 
 ROOT = Path(__file__).resolve().parent.parent.parent
 sys.path.insert(0, str(ROOT / "python"))
@@ -246,6 +246,53 @@ class Jobs(unittest.TestCase):
             bench.copyback_read(0, 1, 1)
             bench.copyback_program(0, 1, 0)
             self.assertEqual((bench.status(0), bench.page_of(0, 1, 0)[0], bench.counts[4]), (due, byte, any_order))
+
+    def test_blank_blocks(self) -> None:
+        bench = Bench.t1(counts=bytes([0, 0, 0, 1]) + bytes(60), bad=[(0, 1)])
+        bench.reset()
+
+        def is_blank(block: int) -> bool:
+            return not bench.flags[block] and not any(bench.counts[4 * block:4 * block + 4])
+
+        def blank() -> List[int]:
+            walked = [sum(map(is_blank, range(first, first + 8))) for first in (0, 8)]
+            kept = [bench.blank(lun) for lun in range(2)]
+            self.assertEqual(kept, walked)
+            return kept
+
+        self.assertEqual(blank(), [6, 8])                   # block 0 is lent with a count, block 1 is bad
+        bench.program(1, 5, 0, finish=False)
+        self.assertEqual(blank(), [6, 7])                   # at 10h, with no data too
+        bench.finish(1)
+        bench.program(1, 5, 1, b"again")
+        bench.program(0, 1, 0, b"on a bad block")
+        self.assertEqual(blank(), [6, 7])
+        bench.erase(0, 0, finish=False)
+        self.assertEqual(blank(), [7, 7])                   # at D0h
+        bench.reset()
+        bench.erase(0, 1)
+        bench.erase(1, 4)                                   # a bad block, and one that is blank
+        self.assertEqual(blank(), [7, 7])
+        bench.counts[4] = 1                                 # a bad block's count: no matter
+        bench.counts[8] = 1                                 # and a good one's, which power-on sees
+        self.assertEqual(bench.blank(0), 7)
+        bench.power_on()
+        self.assertEqual(blank(), [6, 7])
+
+    def test_blank_blocks_of_a_record_that_is_written_to(self) -> None:
+        bench = self.bench
+        bench.target.blank[0] = 0
+        bench.program(0, 0, 0, b"")
+        self.assertEqual(bench.blank(0), 0)
+        bench.target.blank[0] = 8
+        bench.erase(0, 0)
+        self.assertEqual(bench.blank(0), 8)
+        bench.target.blank[0] = 9
+        for event in ((0, 0xFF), (3, 0), (4, 0), (5, 1)):
+            self.assertEqual(bench.event(*event), (2, 13))
+        self.assertEqual(bench.blank(0), 9)
+        bench.power_on()
+        self.assertEqual((bench.blank(0), bench.reset()), (8, (0, 0)))
 
     def test_copyback_is_an_option(self) -> None:
         self.bench.strict = False

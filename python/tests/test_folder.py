@@ -221,6 +221,27 @@ class Commands(Tried):
         self.assertEqual(self.call("diff", "other", "other")[:2], (0, b""))
         self.assertEqual(self.call("text", "-d", given=trace)[0], 0)
 
+    def test_page_of_a_folder_has_its_blank_blocks(self) -> None:
+        Bench.new(self.folder / "t1", "T1", bad=[(0, 3)]).close()
+        with Bench.open(self.folder / "t1") as bench:
+            bench.reset()
+            bench.program(0, 0, 0, b"a")
+            bench.program(0, 1, 0, b"b")
+        before = files(self.folder / "t1")
+        status, said, _ = self.call("page", "t1")
+        self.assertEqual((status, said.splitlines()[-1]), (0, b"blank blocks       LUN 0: 5, LUN 1: 8"))
+        self.assertEqual(said.splitlines()[:-1], self.call("page", "t1/page")[1].splitlines())
+        self.assertEqual(files(self.folder / "t1"), before)
+        (self.folder / "t1" / "counts").write_bytes(bytes([5]) + bytes(63))         # more than 4 programs
+        status, said, error = self.call("page", "t1")
+        self.assertEqual(status, 1)
+        self.assertIn("t1: power-on refused 25", error)
+        self.assertNotIn(b"blank blocks", said)
+        (self.folder / "t1" / "page").write_bytes(bytes(256))           # no part, and nothing to count
+        status, said, error = self.call("page", "t1")
+        self.assertEqual((status, error), (0, ""))
+        self.assertNotIn(b"blank blocks", said)
+
     def test_wrong_calls_are_2(self) -> None:
         for words in ([], ["nonsense"], ["new"], ["new", "a", "b", "c"], ["run"], ["dump", "t1"], ["new", "-x"], ["text", "-e"],
                       ["page"], ["diff", "a"]):
@@ -277,8 +298,10 @@ class Commands(Tried):
         status, said, _ = self.call("page", "page")
         self.assertEqual(status, 0)
         self.assertIn(b"power-on           accepted, with an array of 4529848320 bytes", said)
+        self.assertNotIn(b"blank blocks", said)                         # a page says nothing of them
         status, said, _ = self.call("parts")
         self.assertEqual([line.split()[0] for line in said.decode().splitlines()], list(PARTS))
+        self.assertNotIn(b"blank blocks", self.call("page", "T1")[1])
         self.assertEqual(self.call("version")[:2], (0, ("nibtoggle %s, library %s\n" % (2 * (nibtoggle.__version__,))).encode()))
 
 

@@ -55,7 +55,8 @@ class Numbers(unittest.TestCase):
             self.sends_nothing(call)
         for lun in (2, 255, 256, -1):
             for call in (lambda: b.finish(lun), lambda: b.status(lun), lambda: b.read_out(lun), lambda: b.register(lun),
-                         lambda: b.working(lun), lambda: b.copyback_open(lun), lambda: b.poll(lun)):
+                         lambda: b.working(lun), lambda: b.copyback_open(lun), lambda: b.blank(lun),
+                         lambda: b.poll(lun)):
                 with self.subTest(lun=lun):
                     self.sends_nothing(call)
 

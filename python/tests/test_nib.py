@@ -3,7 +3,6 @@ from __future__ import annotations
 
 import errno
 import os
-import platform
 import random
 import shutil
 import subprocess
@@ -25,6 +24,7 @@ from nibtoggle.part import Part  # noqa: E402
 from nibtoggle.parts import PARTS  # noqa: E402
 
 NIB = Path(os.environ.get("NIB_PROGRAM", ROOT / "target" / "bin" / "nib"))
+RUN = ROOT / "tools" / "run-x86"
 NIBS = ROOT / "crates" / "test_nib" / "data"
 SAVE = ("c ff\nc 80  a 00 00 37 00 00  d 3c a5\nc 10  f 1\nc 80 a 00 00 00 00 00 d 11\nc 10 f 0\n"
         "c 00  a 00 00 37 00 00  c 30  f 1  o 3\n")
@@ -37,7 +37,6 @@ def held(folder: Path) -> Held:
     return {path.name: (path.read_bytes(), path.stat().st_mtime_ns) for path in sorted(folder.iterdir())}
 
 
-@unittest.skipUnless(platform.machine() == "x86_64", "nib is a program for x86-64")
 class Nib(unittest.TestCase):
     @classmethod
     def setUpClass(cls) -> None:
@@ -45,7 +44,11 @@ class Nib(unittest.TestCase):
             raise AssertionError("there is no %s: `rt check nib` builds it" % NIB)
         cls.tools = tempfile.TemporaryDirectory()
         cls.shim = str(Path(cls.tools.name) / "fail.so")
-        subprocess.run(["cc", "-shared", "-fPIC", "-O1", str(ROOT / "tests" / "c" / "fail.c"), "-o", cls.shim, "-ldl"], check=True)
+        subprocess.run([str(ROOT / "tests" / "c" / "build-fail"), cls.shim], check=True)
+        # nib as one word, for shells too: on Arm the kit's emulator runs it
+        cls.program = Path(cls.tools.name) / "nib"
+        cls.program.write_text('#!/bin/sh\nexec "%s" "%s" "$@"\n' % (RUN, NIB), encoding="utf-8")
+        cls.program.chmod(0o755)
 
     @classmethod
     def tearDownClass(cls) -> None:
@@ -61,8 +64,8 @@ class Nib(unittest.TestCase):
     def nib(self, *words: str, given: bytes = b"", fail: str = "") -> Tuple[bytes, str]:
         environment = dict(os.environ)
         if fail:
-            environment.update(LD_PRELOAD=self.shim, NIB_FAIL=fail)
-        done = subprocess.run([str(NIB), *words], input=given, env=environment, cwd=self.folder, stdout=subprocess.PIPE, stderr=subprocess.PIPE)
+            environment.update(RUN_X86_PRELOAD=self.shim, NIB_FAIL=fail)
+        done = subprocess.run([str(self.program), *words], input=given, env=environment, cwd=self.folder, stdout=subprocess.PIPE, stderr=subprocess.PIPE)
         self.assertEqual(done.returncode, 0)
         return done.stdout, done.stderr.decode("utf-8", "replace")
 
@@ -87,12 +90,25 @@ class Files(Nib):
         self.good("run", "t1", given=self.trace)
         before = held(self.part)
         for words, given in ((("explain", "t1"), self.trace), (("explain", "t1"), b""), (("explain", "t1"), b"\x00\xFF\x05"),
-                             (("page", "t1/page"), b""), (("text",), SAVE.encode()), (("text", "-d"), self.trace), (("help",), b""),
+                             (("page", "t1/page"), b""), (("page", "t1"), b""), (("text",), SAVE.encode()),
+                             (("text", "-d"), self.trace), (("help",), b""),
                              (("text", "t1"), b"erase 1 5\n"), (("text", "t1"), b"erase 1 9\n"), (("jobs",), self.trace), (("jobs", "t1"), self.trace),
                              (("parts",), b""), (("version",), b""), (("new", "--help"), b""), (("run", "--help"), self.trace)):
             self.nib(*words, given=given)
             self.assertEqual(held(self.part), before, words)
         self.assertEqual([path.name for path in self.folder.iterdir()], ["t1"])
+
+    def test_page_of_a_folder_has_its_blank_blocks(self) -> None:
+        self.good("new", "t1")
+        self.good("run", "t1", given=self.trace)
+        with Bench.open(self.part) as bench:
+            due = "blank blocks       LUN 0: %d, LUN 1: %d" % (bench.blank(0), bench.blank(1))
+        said = self.good("page", "t1").decode().splitlines()
+        self.assertEqual(said, self.good("page", "t1/page").decode().splitlines() + [due])
+        (self.part / "counts").write_bytes(bytes([5]) + bytes(63))          # more than 4 programs
+        said_, error = self.nib("page", "t1")
+        self.assertEqual(said_.decode().splitlines(), said[:-1])
+        self.assertIn("t1: power-on refused 25", error)
 
     def test_run_leaves_what_the_library_leaves(self) -> None:
         for name, trace in (("t1", self.trace), ("tiny", (NIBS / "trace").read_bytes())):
@@ -260,12 +276,13 @@ class Errors(Nib):
             self.assertTrue(error.startswith("nib: no such call; these are:\n  nib demo "), words)
 
     def test_files_that_are_not_there(self) -> None:
+        (self.folder / "empty").mkdir()                 # no part folder: it has no page
         before, there = held(self.part), sorted(path.name for path in self.folder.iterdir())
         large = "an array of 4529848320 bytes is more than the 4194304 that nib holds; python3 -m nibtoggle has no such limit"
         crc = "power-on refused 22: " + nibtoggle.RULES[22]
         for words, told in ((("run", "none"), "none/page: No such file or directory"), (("new", "t1"), "t1/page: File exists"),
                             (("explain", "none"), "none/page: No such file or directory"),
-                            (("page", "none"), "none: No such file or directory"), (("page", "t1"), "t1: Is a directory"),
+                            (("page", "none"), "none: No such file or directory"), (("page", "empty"), "empty: Is a directory"),
                             (("new", "no/such/dir"), "no/such/dir: No such file or directory"), (("new", "x", "crc"), "crc: " + crc),
                             (("new", "x", "large"), "large: " + large), (("new", "x", "none"), "none: No such file or directory"),
                             (("page", "a" * 5000), "a" * 4096 + ": File name too long"), (("new", "crc"), "crc/page: Not a directory")):
@@ -285,7 +302,7 @@ class Errors(Nib):
                             ('"$0" text -d < t1', "standard input: Is a directory"),
                             ('"$0" help > /dev/full', "standard output: No space left on device")):
             (self.folder / "trace").write_bytes(self.trace)
-            done = subprocess.run(["sh", "-c", shell, str(NIB)], cwd=self.folder, stdout=subprocess.PIPE, stderr=subprocess.PIPE,
+            done = subprocess.run(["sh", "-c", shell, str(self.program)], cwd=self.folder, stdout=subprocess.PIPE, stderr=subprocess.PIPE,
                                   text=True)
             self.assertEqual((done.stdout, done.stderr), ("", "nib: %s\n" % told), shell)
             self.assertEqual(held(self.part), before)
@@ -333,7 +350,7 @@ class Defects(Nib):
         said, error = self.nib("text", given=bad)
         self.assertEqual(said, b"")
         self.assertIn("line 7, place 3: 'zz': not two hex digits", error)
-        subprocess.run(["sh", "-c", '"$0" text | "$0" run t1', str(NIB)], input=bad, cwd=self.folder, stderr=subprocess.DEVNULL, stdout=subprocess.DEVNULL)
+        subprocess.run(["sh", "-c", '"$0" text | "$0" run t1', str(self.program)], input=bad, cwd=self.folder, stderr=subprocess.DEVNULL, stdout=subprocess.DEVNULL)
         self.assertEqual({n: contents for n, (contents, _) in held(self.part).items() if n != "registers"},
                          {n: contents for n, (contents, _) in before.items()})
 

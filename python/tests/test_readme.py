@@ -3,7 +3,6 @@ from __future__ import annotations
 
 import doctest
 import os
-import platform
 import re
 import subprocess
 import sys
@@ -22,7 +21,6 @@ def boxes(kind: str) -> "list[str]":
 
 
 class Readme(unittest.TestCase):
-    @unittest.skipUnless(platform.machine() == "x86_64", "nib is a program for x86-64")
     def test_its_commands(self) -> None:
         self.assertGreater(len(boxes("sh")), 3)
         with tempfile.TemporaryDirectory() as folder:

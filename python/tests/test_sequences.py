@@ -2,7 +2,6 @@
 from __future__ import annotations
 
 import os
-import platform
 import subprocess
 import sys
 import tempfile
@@ -23,10 +22,11 @@ FIELDS = {"features": (6, 2, 16), "optional": (8, 2, 16), "programs": (110, 1, 1
 
 
 class Line(NamedTuple):
-    """Events as nib's text, and the reply due to each; None for any byte."""
+    """Events as nib's text, the reply due to each, None for any byte, and the LUNs' blank blocks after them, if any."""
 
     text: str
     due: List[Optional[Tuple[int, int]]]
+    blank: List[int]
 
 
 class Case(NamedTuple):
@@ -91,8 +91,9 @@ def cases(path: Path) -> List[Case]:
         elif line.startswith("# part "):
             found[-1].changes.append(line.split()[2:])
         elif line.strip() and not line.startswith("#"):
-            text, _, due = line.partition("#")
-            found[-1].lines.append(Line(text.strip(), answers(due)))
+            text, _, told = line.partition("#")
+            due, _, blank = told.partition("blank")
+            found[-1].lines.append(Line(text.strip(), answers(due), [int(n) for n in blank.split(",") if blank]))
     return found
 
 
@@ -107,9 +108,16 @@ class Sequences(unittest.TestCase):
             right = reply.byte is not None if due is None else reply == due
             self.assertTrue(right, "%s: event %d, %s: %s, and not %s" % (case.title, at, replies.event(at), reply, due))
 
+    def numbered(self, case: Case, line: Line, bench: Bench) -> None:
+        """The numbers of blank blocks that the line is to end with, where it has them."""
+        self.assertIn(len(line.blank), (0, 2), case.title)
+        for lun, blank in enumerate(line.blank):
+            self.assertEqual(bench.blank(lun), blank, "%s: LUN %d, blank after %s" % (case.title, lun, line.text))
+
     def test_the_files_are_there(self) -> None:
-        for name, least in (("A1", 8), ("A2", 8), ("A4", 6)):
+        for name, least in (("A1", 8), ("A2", 8), ("A4", 6), ("A7", 8)):
             self.assertGreaterEqual(len(ALL[name]), least)
+        self.assertGreaterEqual(sum(len(line.blank) == 2 for case in ALL["A7"] for line in case.lines), 37)
         for some in ALL.values():
             self.assertEqual([int(case.title.split(":")[0]) for case in some], list(range(1, len(some) + 1)))
             for case in some:
@@ -119,11 +127,14 @@ class Sequences(unittest.TestCase):
         for case in (case for some in ALL.values() for case in some):
             with case.bench() as bench:
                 self.held(case, bench.trace(records_of(case.text)))
+                self.numbered(case, case.lines[-1], bench)
             with case.bench() as bench:
-                single = [bench.event(kind, value) for kind, value in zip(*[iter(records_of(case.text))] * 2)]
+                single = [bench.event(0, 0xFF)]
+                for line in case.lines:
+                    single += [bench.event(kind, value) for kind, value in zip(*[iter(records_of(line.text))] * 2)]
+                    self.numbered(case, line, bench)
                 self.held(case, Replies(bytes(byte for reply in single for byte in reply), records_of(case.text)))
 
-    @unittest.skipUnless(platform.machine() == "x86_64", "nib is a program for x86-64")
     def test_by_nib(self) -> None:
         for case in (case for some in ALL.values() for case in some):
             with tempfile.TemporaryDirectory() as name:
@@ -145,7 +156,7 @@ class Sequences(unittest.TestCase):
                     self.assertIn("refused %d: %s" % (reply.refusal, reply.words), line, case.title)
 
     def nib(self, *words: str, given: bytes) -> bytes:
-        done = subprocess.run([str(NIB), *words], input=given, stdout=subprocess.PIPE, stderr=subprocess.PIPE)
+        done = subprocess.run([str(ROOT / "tools" / "run-x86"), str(NIB), *words], input=given, stdout=subprocess.PIPE, stderr=subprocess.PIPE)
         self.assertEqual((done.returncode, done.stderr), (0, b""))
         return done.stdout
 

@@ -32,7 +32,8 @@
 #endif
 
 /* The record without the padding at its end, which says nothing. */
-enum { USED = offsetof(nib_target, kept) + 1, /* sizes and words come first, then its size_t numbers, then its bytes */
+enum { USED = offsetof(nib_target, blank) + sizeof(((nib_target *)0)->blank),
+       /* sizes and words come first, then its size_t numbers, its bytes, and last the numbers of blank blocks */
        WORDS = offsetof(nib_target, pages) / sizeof(uint16_t),
        NUMBERS = (offsetof(nib_target, powered) - offsetof(nib_target, pages)) / sizeof(size_t), SPARE = 80, GUARD = 0x5A, LONGEST = 4000 };
 
@@ -50,7 +51,7 @@ static uint32_t below(uint32_t n) { return (uint32_t)((uint64_t)random32() * n >
 static int chance(uint32_t percent) { return below(100) < percent; }
 
 static uint64_t records_run, damaged_records, damaged_lengths, refused13, survived;
-static uint64_t met[26], replies_met[3], kept_met[7];
+static uint64_t met[26], replies_met[3], kept_met[7], blank_met[2];
 
 static void fail(const char *what)
 {
@@ -126,6 +127,7 @@ typedef struct model {
     room record, buffer[BUFFERS], records, replies;
     size_t right[BUFFERS];
     struct plain_target plain;
+    uint16_t blank[NIB_MAX_LUNS];       /* the record's numbers of blank blocks when they were last looked at */
     uint8_t *mine[BUFFERS];     /* the plain model's, unfenced */
     uint8_t in[LONGEST], out[LONGEST + 2];
     uint8_t *before;            /* room for a copy of any buffer */
@@ -158,6 +160,23 @@ static void lend_right(model *m)
         lend(&m->buffer[i], m->right[i], chance(70));
 }
 
+static void check_blank(const model *m)
+{
+    for (unsigned l = 0; l < NIB_MAX_LUNS; l++)
+        if (m->t->blank[l] != m->plain.lun[l].blank)
+            fail("a number of blank blocks is not the plain model's");
+}
+
+/* How often the numbers of blank blocks go down and up in single events. */
+static void count_blank(model *m)
+{
+    for (unsigned l = 0; l < NIB_MAX_LUNS; l++) {
+        blank_met[0] += m->t->blank[l] < m->blank[l];
+        blank_met[1] += m->t->blank[l] > m->blank[l];
+        m->blank[l] = m->t->blank[l];
+    }
+}
+
 static void check_kept(const model *m)
 {
     if (m->t->kept != m->plain.kept.kind || m->t->kept_lun != m->plain.kept.lun || m->t->kept_at != m->plain.kept.next)
@@ -174,6 +193,10 @@ static void check_same(const model *m)
         if (m->t->working[l] != m->plain.lun[l].working || m->t->fail[l] != m->plain.lun[l].fail
             || m->t->copyback[l] != m->plain.lun[l].copyback)
             fail("a LUN's marks are not the plain model's");
+    for (unsigned l = 0; l < NIB_MAX_LUNS; l++)
+        if (m->t->blank[l] != plain_blank_walk(&m->plain, l, m->mine[COUNTS], m->mine[FLAGS]))
+            fail("a number of blank blocks is not the walk's");
+    check_blank(m);
     check_kept(m);
 }
 
@@ -218,6 +241,7 @@ static void open_model(model *m, const fields *f)
     if (nib_lent_power_on(m->t, &b, DEVICE) != 0 || plain_power(m, m->right, DEVICE) != 0)
         fail("power-on");
     check_same(m);
+    memcpy(m->blank, m->t->blank, sizeof m->blank);
 }
 
 /* ---- Random records: whole jobs with wrong cycles among them, and noise ---- */
@@ -423,12 +447,15 @@ static void run_both(model *m)
                 fail("a reply is not the plain model's");
             check_reply(reply, m->in[i]);
             check_kept(m);
+            check_blank(m);
+            count_blank(m);
             records_run++;
         }
     }
     check_rest(m);
     check_all_guards(m);
     check_same(m);
+    memcpy(m->blank, m->t->blank, sizeof m->blank);
 }
 
 /* A number near one that may pass, or any. */
@@ -442,6 +469,14 @@ static size_t some_number(const model *m)
     case 4: return SIZE_MAX - below(3);
     default: return (size_t)random32() << 32 | random32();
     }
+}
+
+/* A number of blank blocks, mostly one that passes. */
+static uint16_t some_blank(const model *m, unsigned lun)
+{
+    if (lun >= m->part.luns)
+        return (uint16_t)chance(2);
+    return (uint16_t)(chance(95) ? below((uint32_t)m->part.blocks + 1) : m->part.blocks + 1);
 }
 
 static void damage_record(model *m)
@@ -486,7 +521,7 @@ static void damage_record(model *m)
         m->t->kept_lun = chance(60) ? 0 : below(3);
         m->t->kept_at = chance(50) ? 0 : chance(50) ? below(6) : chance(80) ? some_column(m) : 766 + below(4);
         for (unsigned l = 0; l < NIB_MAX_LUNS; l++)
-            m->t->copyback[l] = l < m->part.luns ? chance(50) : chance(10);
+            m->t->copyback[l] = l < m->part.luns ? chance(50) : chance(10), m->t->blank[l] = some_blank(m, l);
     }
     damaged_records++;
 }
@@ -636,6 +671,7 @@ static void power_damaged(model *m)
         fail("power-on's answer");
     met[answer]++;
     powers = answer == 0;
+    check_blank(m);
     for (unsigned i = 0; i < BUFFERS; i++)
         if (memcmp(m->buffer[i].at, m->mine[i], n[i]) != 0)
             fail("a byte after power-on");
@@ -695,10 +731,14 @@ int main(int argc, char **argv)
            (unsigned long long)kept_met[NIB_OUTPUT_REGISTER], (unsigned long long)kept_met[NIB_OUTPUT_PARAMETERS],
            (unsigned long long)kept_met[NIB_OUTPUT_IDS], (unsigned long long)kept_met[NIB_OUTPUT_SIGNATURE],
            (unsigned long long)kept_met[NIB_OUTPUT_FEATURE]);
+    printf("bad: blank blocks: %llu times one fewer, %llu times one more\n", (unsigned long long)blank_met[0],
+           (unsigned long long)blank_met[1]);
     /* a test that met nothing has tested nothing */
     for (unsigned i = NIB_OUTPUT_REGISTER; i <= NIB_OUTPUT_FEATURE; i++)
         if (i != NIB_OUTPUT_STATUS && kept_met[i] == 0 && count >= 1000000)
             fail("an output was never kept");
+    if (count >= 1000000 && (blank_met[0] == 0 || blank_met[1] == 0))
+        fail("a number of blank blocks never moved");
     for (unsigned i = 1; i <= 25; i++)
         if ((i <= 14 || i >= 20) && met[i] == 0 && count >= 1000000)
             fail("a refusal was never met");

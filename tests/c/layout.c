@@ -16,7 +16,7 @@ NIB_LAYOUT(SAME)
 /* No field of the header is missing there: the bytes of all fields together are those up to the last one's end, since the record has
  * padding at its end alone. */
 #define BYTES(field, place, bytes) + (bytes)
-_Static_assert((0 NIB_LAYOUT(BYTES)) == offsetof(nib_target, kept) + sizeof(((nib_target *)0)->kept),
+_Static_assert((0 NIB_LAYOUT(BYTES)) == offsetof(nib_target, blank) + sizeof(((nib_target *)0)->blank),
                "bytes of all fields");
 
 int main(void)

@@ -8,7 +8,7 @@
 static unsigned checks, failures;
 
 /* The record without the padding at its end. */
-enum { USED = offsetof(nib_target, kept) + 1 };
+enum { USED = offsetof(nib_target, blank) + sizeof(((nib_target *)0)->blank) };
 
 static void same(const char *what, unsigned long long is, unsigned long long should)
 {
@@ -495,6 +495,92 @@ static void kept_records(void)
     close_bench(&x);
 }
 
+static void erase(bench *x, uint32_t at)
+{
+    same("60h", command(x, 0x60), NIB_ACCEPTED);
+    same("row of 60h", row(x, at), NIB_ACCEPTED);
+    same("D0h", command(x, 0xD0), NIB_ACCEPTED);
+}
+
+static void blank_are(const bench *x, const char *what, unsigned lun0, unsigned lun1)
+{
+    same(what, x->t.blank[0], lun0);
+    same("LUN 1's blank blocks", x->t.blank[1], lun1);
+    same("no LUN 2 and 3", x->t.blank[2] == 0 && x->t.blank[3] == 0, 1);
+}
+
+/* The numbers of blank blocks: walked at power-on, moved by 10h and D0h where they proceed, kept by all else. */
+static void blank_blocks(void)
+{
+    static const uint8_t zero = 0x00;
+    bench x;
+
+    open_bench(&x, &T1);
+    blank_are(&x, "a new part", 8, 8);
+    x.flags[1] = 1;
+    x.b.counts[8 * 4 + 3] = 1;          /* the last page of LUN 1's first block */
+    same("power-on again", nib_lent_power_on(&x.t, &x.b, DEVICE), 0);
+    blank_are(&x, "a bad block, a page of LUN 1", 7, 7);
+    command(&x, 0xFF);
+    program(&x, nib_row(x.part, 0, 0, 0), 0, &zero, 1);
+    blank_are(&x, "a block's first program, at 10h", 6, 7);
+    event(&x, NIB_FINISH, 0);
+    blank_are(&x, "its finish", 6, 7);
+    program(&x, nib_row(x.part, 0, 0, 1), 0, NULL, 0);
+    event(&x, NIB_FINISH, 0);
+    blank_are(&x, "its second program", 6, 7);
+    program(&x, nib_row(x.part, 0, 1, 0), 0, &zero, 1);
+    event(&x, NIB_FINISH, 0);
+    blank_are(&x, "a program of a bad block", 6, 7);
+    same("which fails", x.t.fail[0], 1);
+    program(&x, nib_row(x.part, 0, 2, 0), 0, NULL, 0);
+    blank_are(&x, "a program without data", 5, 7);
+    same("FFh", command(&x, 0xFF), NIB_ACCEPTED);
+    blank_are(&x, "FFh keeps them", 5, 7);
+    erase(&x, nib_row(x.part, 1, 0, 0));
+    blank_are(&x, "an erase, at D0h", 5, 8);
+    event(&x, NIB_FINISH, 1);
+    erase(&x, nib_row(x.part, 1, 7, 0));
+    event(&x, NIB_FINISH, 1);
+    blank_are(&x, "an erase of a blank block", 5, 8);
+    erase(&x, nib_row(x.part, 0, 1, 0));
+    event(&x, NIB_FINISH, 0);
+    blank_are(&x, "an erase of a bad block", 5, 8);
+    same("power-on over what there is", nib_lent_power_on(&x.t, &x.b, DEVICE), 0);
+    blank_are(&x, "walked again", 5, 8);
+    close_bench(&x);
+}
+
+/* A lent record whose number is untrue: it stops at 0 and at the LUN's blocks, and past those it is 13. */
+static void untrue_blanks(void)
+{
+    bench x;
+    nib_target before;
+
+    open_bench(&x, &T1);
+    command(&x, 0xFF);
+    x.t.blank[0] = 0;
+    program(&x, nib_row(x.part, 0, 0, 0), 0, NULL, 0);
+    blank_are(&x, "no blank block, and one programmed", 0, 8);
+    event(&x, NIB_FINISH, 0);
+    x.t.blank[0] = 8;
+    erase(&x, nib_row(x.part, 0, 0, 0));
+    blank_are(&x, "all blank, and one erased", 8, 8);
+    before = x.t;
+    x.t.blank[0] = 9;
+    same("more than the LUN has", event(&x, NIB_FINISH, 0), REFUSED(13));
+    same("it stays", x.t.blank[0], 9);
+    x.t = before;
+    x.t.blank[1] = UINT16_MAX;
+    same("as many as fit", command(&x, 0xFF), REFUSED(13));
+    x.t = before;
+    x.t.blank[2] = 1;
+    same("one of a LUN that is not there", command(&x, 0xFF), REFUSED(13));
+    x.t = before;
+    same("as before", event(&x, NIB_FINISH, 0), NIB_ACCEPTED);
+    close_bench(&x);
+}
+
 static void refused_calls(void)
 {
     static const uint8_t odd[] = {0, 0xFF, 7};
@@ -560,6 +646,7 @@ static void refused_calls(void)
     same("20", nib_lent_power_on(&x.t, &wrong, DEVICE), 20);
     same("unpowered", command(&x, 0xFF), REFUSED(13));
     same("all numbers 0", x.t.data_bytes == 0 && x.t.features == 0 && x.t.luns == 0 && x.t.device == 0, 1);
+    same("no blank block", x.t.blank[0], 0);
     x.page[0] = 'o';
     same("21", nib_lent_power_on(&x.t, &x.b, DEVICE), 21);
     x.page[0] = 'O';
@@ -765,6 +852,8 @@ int main(void)
     page_order();
     polling();
     kept_records();
+    blank_blocks();
+    untrue_blanks();
     refused_calls();
     checked_pages();
     text_and_words();

@@ -3,7 +3,7 @@
 to; with --check, only says whether these files are what it would write. A mismatch is told with its line, and the lines
 of the second file are counted on from the first's.
 
-Every expectation below is written by hand from the words of document 01 and of requests A1, A2 and A4 of document
+Every expectation below is written by hand from the words of document 01 and of requests A1, A2, A4 and A7 of document
 02 (quoted or named beside the states); none is taken from the model, which this script neither calls nor reads, and no
 state is worked out by running anything. The script only EXPANDS what each state says:
   seq(..)   a place with an open sequence: its own line says which commands, addresses and data fit and what they give;
@@ -1347,6 +1347,7 @@ kept()
 RECORD = {
     'powered': 0, 'data bytes': 1, 'pages': 2, 'blocks': 3, 'LUNs': 4, 'programs': 5, 'selected': 6, 'LUN 2 works': 7, 'LUN 3 failed': 8,
     'features': 9, 'optional commands': 10, 'copyback of LUN 0': 11, 'copyback of LUN 2': 12,
+    'blank blocks of LUN 0': 0x0D, 'blank blocks of LUN 1': 0x0E, 'blank blocks of LUN 2': 0x0F,
     # the output is the register of LUN 0 from a column on, that of a LUN from column 0 on, the parameter page, a LUN's status,
     # IDs, the signature, the feature, each from a place on
     'register column': 0x10, 'register LUN': 0x11, 'parameter place': 0x12, 'status LUN': 0x13, 'ID place': 0x14,
@@ -1964,6 +1965,42 @@ array(*at(64, *[x & y for x, y in zip(page_of(4), page_of(6))]))
 counts('4:01')
 registers(*at(0, *page_of(6)))
 kept()
+
+# ---------------------------------------------------------------------------------------------------------------------
+# A7, on U, where a LUN has 2 blocks: "Keep the number in the LUN record from power-on." A run gives it 0 to blocks, and
+# 0 to a LUN past the count. LUN 0's first block (rows 0 to 3) is blank, its second (row 6 written) is not; LUN 1 has
+# none: row 11 is written, and rows 12 to 15 are bad. The table has no word for the number itself: rule 13 shows it.
+part(*U)
+READY, FAILS = c(0x70) + given(0xE0), c(0x70) + given(0xE1)
+ZERO, ONE, TWO = 'blank blocks of LUN 0', 'blank blocks of LUN 1', 'blank blocks of LUN 2'
+case('13: blank blocks')
+for name in (ZERO, ONE):
+    bad(name, 3)
+    bad(name, 0xFFFF)
+    for number in (0, 1, 2):
+        fine(name, number, READY + FF + READY)
+bad(TWO, 1)
+bad(TWO, 2)
+bad(TWO, 3)
+fine(TWO, 0, READY)
+
+# "A lent record .. may make it untrue: it then stops at 0 and at blocks, and the record passes 13": a number that went
+# on would make 13 of all that comes after.
+case('blank blocks: an untrue number stops at 0 and at blocks')
+fine(ZERO, 0, program(0, 0) + c(0x70) + given(0x80) + f(0) + given(0xE0))
+fine(ZERO, 0, copyback(6) + f(0) + copied(0, 0) + f(0) + READY)
+fine(ZERO, 2, erase(4) + c(0x70) + given(0x80) + f(0) + given(0xE0))
+fine(ONE, 2, erase(8) + c(0x70) + given(0x80) + f(1) + given(0xE0))
+# From 0: 0, 1, 2, 1; from 0: 1, 0, 0; from 2: 2, 1, 2, 1.
+fine(ZERO, 0, program(0, 0) + f(0) + erase(0) + f(0) + erase(4) + f(0) + program(4, 0) + f(0) + READY)
+fine(ZERO, 0, erase(4) + f(0) + program(0, 0) + f(0) + program(4, 0) + f(0) + READY)
+fine(ZERO, 2, erase(5) + f(0) + program(7, 0) + f(0) + erase(6) + f(0) + program(3, 0) + f(0) + READY)
+# What does not proceed, a bad block, a full page, a page out of order; the other LUN's number; FFh.
+fine(ONE, 2, erase(12) + f(1) + FAILS)
+fine(ONE, 0, program(12, 0) + f(1) + FAILS + program(11, 0) + f(1) + FAILS)
+fine(ZERO, 0, program(5, 0) + f(0) + FAILS)
+fine(ONE, 0, program(0, 0) + f(0) + FF + READY)
+fine(ZERO, 2, erase(8) + FF + READY)
 
 # ---------------------------------------------------------------------------------------------------------------------
 # Wrong on purpose, so that the program shows that it compares: eleven expectations here are wrong, of each kind at

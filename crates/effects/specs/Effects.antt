@@ -33,6 +33,7 @@ use Rattle.target.specs.declared.views.Given.{Given}
 use Rattle.target.specs.declared.views.Given.the-variants as given
 use Rattle.target.specs.declared.views.Taker.{Taker}
 use Rattle.target.specs.declared.views.Taker.the-variants as taker
+use Rattle.target.specs.declared.views.Ended.{Ended}
 use Rattle.target.specs.declared.views.Ender.{Ender}
 use Rattle.target.specs.declared.views.Ender.the-variants as ender
 use Rattle.memory.specs.Memory.{keptAfter}

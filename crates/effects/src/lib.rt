@@ -26,7 +26,9 @@ use target::views::Taker;
 use target::views::completed;
 use target::views::taking;
 ghost use mathlib.Core.Path.{_≡_};
+ghost use mathlib.Core.Bool.{true};
 ghost use Prim.Native.Nat.{_<_};
+ghost use Rattle.target.specs.Sizes.{inLimits};
 ghost use Rattle.target.specs.Views.{taking};
 ghost use Rattle.target.specs.Place.{putOut};
 ghost use Rattle.effects.specs.Effects.{rowSelects, selectedAfter, clearSet, clearAfter, highAfter, targetAfter, targetRefused, placeIn, placeOut};
@@ -87,6 +89,7 @@ pub fn high_after(high: bool, e: Event) -> bool
 
 // The record after an accepted event.
 pub fn target_after(t: Target, e: Event, found: Findings) -> Target
+    requires { ⌜ inLimits (t .geometry) ≡ true ⌝ }
     requires { ⌜ (placeIn (taking (t .decoder .sequence)) < 65536) × (placeOut (putOut (t .decoder)) < 65536) ⌝ }
     ensures { λ r. ⌜ r ≡ targetAfter t e found ⌝ }
 {

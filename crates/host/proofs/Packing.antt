@@ -5,7 +5,7 @@
 --     kept-image       taken out and put back, a record is as it was
 --     kept-event       an event that 13 refuses changes no number of the record and no lent byte
 --     bad-event        on numbers that no record packs to every event is refused 13
--- A record has four LUN records, and the numbers four marks of each kind: the types of the code say so.
+-- A record has four LUN records, and the numbers four marks of each kind and four numbers of blank blocks: the types of the code say so.
 -- Assumes nothing.
 use mathlib.Core.Path.{_≡_, refl, sym, ap, _∙_}
 use mathlib.Core.Bool.{Bool, true, false, _&&_}
@@ -18,7 +18,7 @@ use borrow.Author.Tests.{eqb-true, eqb-false, leb-true, le-leb, eq-eqb}
 use Rattle.target.proofs.Both.{both, both3, both4, both5}
 use Rattle.target.specs.Pick.{pick}
 use Rattle.target.specs.Commands.{placeOf}
-use Rattle.target.specs.Luns.{lunReady, works, failed, copybackAt}
+use Rattle.target.specs.Luns.{lunUnused, works, failed, copybackAt, blankAt}
 use Rattle.target.specs.declared.Lun.{Lun}
 use Rattle.target.specs.declared.First.{First}
 use Rattle.target.specs.declared.First.the-variants as first
@@ -35,7 +35,7 @@ use Rattle.step.specs.Step.{Buffers, Outcome, steady, stepOf}
 use Rattle.host.specs.declared.numbers.Cycles.{Cycles}
 use Rattle.host.specs.declared.numbers.Place.{Place}
 use Rattle.host.specs.declared.Image.{Image}
-use Rattle.host.specs.Numbers.{markByte, isSet, firstAt, sequenceOf, cyclesOf, outputOf, outputPlace, lunsOf, workingOf, failOf, copybackOf, sameCycles, samePlace, fourMarks}
+use Rattle.host.specs.Numbers.{markByte, isSet, firstAt, sequenceOf, cyclesOf, outputOf, outputPlace, lunsOf, workingOf, failOf, copybackOf, blankOf, sameCycles, samePlace, fourMarks}
 use Rattle.host.specs.Image.{cyclesIn, placeIn, keptIn, unpacked, imageFrom, packed, marksGood, good, taken, putBack, replyNumber, HostEvent, evented, eventOn}
 
 mark-back : (b : Bool) → isSet (markByte b) ≡ b
@@ -89,15 +89,15 @@ four x (a ∷ b ∷ c ∷ []) h = absurd (omega arith)
 four x (a ∷ b ∷ c ∷ d ∷ []) h = refl
 four x (a ∷ b ∷ c ∷ d ∷ e ∷ xs) h = absurd (omega arith)
 
-luns-back : (ls : List Lun) → length ls ≡ 4 → lunsOf (workingOf ls) (failOf ls) (copybackOf ls) ≡ ls
+luns-back : (ls : List Lun) → length ls ≡ 4 → lunsOf (workingOf ls) (failOf ls) (copybackOf ls) (blankOf ls) ≡ ls
 luns-back ls h =
     (λ j.
-    record { working = mark-back (works ls 0) j; fail = mark-back (failed ls 0) j; copyback = mark-back (copybackAt ls 0) j }
-    ∷ record { working = mark-back (works ls 1) j; fail = mark-back (failed ls 1) j; copyback = mark-back (copybackAt ls 1) j }
-    ∷ record { working = mark-back (works ls 2) j; fail = mark-back (failed ls 2) j; copyback = mark-back (copybackAt ls 2) j }
-    ∷ record { working = mark-back (works ls 3) j; fail = mark-back (failed ls 3) j; copyback = mark-back (copybackAt ls 3) j }
+    record { working = mark-back (works ls 0) j; fail = mark-back (failed ls 0) j; copyback = mark-back (copybackAt ls 0) j; blank = blankAt ls 0 }
+    ∷ record { working = mark-back (works ls 1) j; fail = mark-back (failed ls 1) j; copyback = mark-back (copybackAt ls 1) j; blank = blankAt ls 1 }
+    ∷ record { working = mark-back (works ls 2) j; fail = mark-back (failed ls 2) j; copyback = mark-back (copybackAt ls 2) j; blank = blankAt ls 2 }
+    ∷ record { working = mark-back (works ls 3) j; fail = mark-back (failed ls 3) j; copyback = mark-back (copybackAt ls 3) j; blank = blankAt ls 3 }
     ∷ [])
-    ∙ four lunReady ls h
+    ∙ four lunUnused ls h
 
 -- what is packed unpacks to itself
 pub packed-back : (t : Target) → length (t .luns) ≡ 4 → unpacked (packed t) ≡ t
@@ -211,32 +211,36 @@ same-place a b h =
     let p = both3 (eqb (a .kind) (b .kind)) (eqb (a .lun) (b .lun)) (eqb (a .at) (b .at)) h in
     λ j. record { kind = eqb-true (a .kind) (b .kind) (p .0) j; lun = eqb-true (a .lun) (b .lun) (p .1) j; at = eqb-true (a .at) (b .at) (p .2) j }
 
-working-back : (w f c : List ℕ) → length w ≡ 4 → fourMarks w ≡ true → workingOf (lunsOf w f c) ≡ w
+working-back : (w f c b : List ℕ) → length w ≡ 4 → fourMarks w ≡ true → workingOf (lunsOf w f c b) ≡ w
 unfolding fourMarks
-working-back w f c l h =
+working-back w f c b l h =
     let p = both4 (leb (getD w 0 0) 1) (leb (getD w 1 0) 1) (leb (getD w 2 0) 1) (leb (getD w 3 0) 1) h in
     (λ j. mark-fits (getD w 0 0) (p .0) j ∷ mark-fits (getD w 1 0) (p .1) j ∷ mark-fits (getD w 2 0) (p .2) j ∷ mark-fits (getD w 3 0) (p .3) j ∷ []) ∙ four 0 w l
 
-fail-back : (w f c : List ℕ) → length f ≡ 4 → fourMarks f ≡ true → failOf (lunsOf w f c) ≡ f
+fail-back : (w f c b : List ℕ) → length f ≡ 4 → fourMarks f ≡ true → failOf (lunsOf w f c b) ≡ f
 unfolding fourMarks
-fail-back w f c l h =
+fail-back w f c b l h =
     let p = both4 (leb (getD f 0 0) 1) (leb (getD f 1 0) 1) (leb (getD f 2 0) 1) (leb (getD f 3 0) 1) h in
     (λ j. mark-fits (getD f 0 0) (p .0) j ∷ mark-fits (getD f 1 0) (p .1) j ∷ mark-fits (getD f 2 0) (p .2) j ∷ mark-fits (getD f 3 0) (p .3) j ∷ []) ∙ four 0 f l
 
-copyback-back : (w f c : List ℕ) → length c ≡ 4 → fourMarks c ≡ true → copybackOf (lunsOf w f c) ≡ c
+copyback-back : (w f c b : List ℕ) → length c ≡ 4 → fourMarks c ≡ true → copybackOf (lunsOf w f c b) ≡ c
 unfolding fourMarks
-copyback-back w f c l h =
+copyback-back w f c b l h =
     let p = both4 (leb (getD c 0 0) 1) (leb (getD c 1 0) 1) (leb (getD c 2 0) 1) (leb (getD c 3 0) 1) h in
     (λ j. mark-fits (getD c 0 0) (p .0) j ∷ mark-fits (getD c 1 0) (p .1) j ∷ mark-fits (getD c 2 0) (p .2) j ∷ mark-fits (getD c 3 0) (p .3) j ∷ []) ∙ four 0 c l
 
--- four marks of each kind
-pub record FourMarks (i : Image) : Type 0 where
+blank-back : (w f c b : List ℕ) → length b ≡ 4 → blankOf (lunsOf w f c b) ≡ b
+blank-back w f c b l = four 0 b l
+
+-- four marks of each kind, and four numbers
+pub record FourOfEach (i : Image) : Type 0 where
   pub working : length (i .working) ≡ 4
   pub fail : length (i .fail) ≡ 4
   pub copyback : length (i .copyback) ≡ 4
+  pub blank : length (i .blank) ≡ 4
 
 -- what can be unpacked packs back to itself
-pub image-back : (i : Image) → FourMarks i → good i ≡ true → packed (unpacked i) ≡ i
+pub image-back : (i : Image) → FourOfEach i → good i ≡ true → packed (unpacked i) ≡ i
 unfolding good marksGood packed unpacked cyclesIn placeIn keptIn
 image-back i l h =
     let g = both4 (marksGood i) (sameCycles (cyclesIn i) (cyclesOf (sequenceOf (cyclesIn i)))) (samePlace (placeIn i) (outputPlace (outputOf (placeIn i)))) (samePlace (keptIn i) (outputPlace (outputOf (keptIn i)))) h in
@@ -266,8 +270,8 @@ image-back i l h =
       high = mark-fits (i .high) (m4 .1) j;
       clear = mark-fits (i .clear) (m4 .2) j;
       seen = mark-fits (i .seen) (m4 .3) j;
-      working = working-back (i .working) (i .fail) (i .copyback) (l .working) (m4 .4) j;
-      fail = fail-back (i .working) (i .fail) (i .copyback) (l .fail) (m5 .1) j;
+      working = working-back (i .working) (i .fail) (i .copyback) (i .blank) (l .working) (m4 .4) j;
+      fail = fail-back (i .working) (i .fail) (i .copyback) (i .blank) (l .fail) (m5 .1) j;
       maker = i .maker;
       device = i .device;
       sequence = cycles j .kind;
@@ -277,12 +281,13 @@ image-back i l h =
       mid = cycles j .mid;
       value = cycles j .value;
       output = place j .kind;
-      copyback = copyback-back (i .working) (i .fail) (i .copyback) (l .copyback) (m6 .1) j;
+      copyback = copyback-back (i .working) (i .fail) (i .copyback) (i .blank) (l .copyback) (m6 .1) j;
       kept = kept j .kind;
+      blank = blank-back (i .working) (i .fail) (i .copyback) (i .blank) (l .blank) j;
     }
 
 -- a record that is taken out and put back unchanged is as it was, whatever its numbers
-pub kept-image : (i : Image) → FourMarks i → putBack i (taken i) ≡ i
+pub kept-image : (i : Image) → FourOfEach i → putBack i (taken i) ≡ i
 unfolding putBack taken
 kept-image i l = by (good i) refl where
   by : (b : Bool) → good i ≡ b → putBack i (taken i) ≡ i
@@ -290,7 +295,7 @@ kept-image i l = by (good i) refl where
   by false e = ap (λ (g : Bool). pick g (packed (pick g (unpacked i) unpowered)) i) e
 
 -- an event that rule 13 refuses changes no number of the record and no lent byte
-module _ (i : Image) (page : List ℕ) (b : Buffers) (flags : List ℕ) (l : FourMarks i) where
+module _ (i : Image) (page : List ℕ) (b : Buffers) (flags : List ℕ) (l : FourOfEach i) where
   abbrev Usable : Target → Bool
   Usable t = usable t (length page) (length (b .array)) (length (b .registers)) (length (b .counts)) (length flags)
 

@@ -18,7 +18,7 @@ use Rattle.unread.specs.declared.Unread.{Unread}
 use Rattle.host.specs.declared.numbers.Cycles.{Cycles}
 use Rattle.host.specs.declared.numbers.Place.{Place}
 use Rattle.host.specs.declared.Image.{Image}
-use Rattle.host.specs.Numbers.{markByte, isSet, sequenceOf, cyclesOf, outputOf, outputPlace, lunsOf, workingOf, failOf, copybackOf, sameCycles, samePlace, fourMarks}
+use Rattle.host.specs.Numbers.{markByte, isSet, sequenceOf, cyclesOf, outputOf, outputPlace, lunsOf, workingOf, failOf, copybackOf, blankOf, sameCycles, samePlace, fourMarks}
 
 -- the numbers of the open sequence, of the output and of the output that was kept
 unfoldable pub cyclesIn : Image → Cycles
@@ -57,7 +57,7 @@ unpacked i = record {
   clear = isSet (i .clear);
   seen = isSet (i .seen);
   selected = i .selected;
-  luns = lunsOf (i .working) (i .fail) (i .copyback);
+  luns = lunsOf (i .working) (i .fail) (i .copyback) (i .blank);
   decoder = record { sequence = sequenceOf (cyclesIn i); output = outputOf (placeIn i); kept = outputOf (keptIn i) };
 }
 
@@ -95,6 +95,7 @@ imageFrom t c p k = record {
   output = p .kind;
   copyback = copybackOf (t .luns);
   kept = k .kind;
+  blank = blankOf (t .luns);
 }
 
 unfoldable pub packed : Target → Image

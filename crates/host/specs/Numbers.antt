@@ -6,7 +6,7 @@ use lib.ListN.{getD}
 use lib.Dec.{eqb, leb}
 use Rattle.target.specs.Pick.{pick}
 use Rattle.target.specs.Commands.{placeOf, firstCommands}
-use Rattle.target.specs.Luns.{works, failed, copybackAt}
+use Rattle.target.specs.Luns.{works, failed, copybackAt, blankAt}
 use Rattle.target.specs.declared.Lun.{Lun}
 use Rattle.target.specs.declared.First.{First}
 use Rattle.target.specs.declared.First.the-variants as first
@@ -77,14 +77,15 @@ outputOf p =
     (pick (eqb (p .kind) 5) (output.Signature (p .at))
     (pick (eqb (p .kind) 6) (output.Feature (p .at)) output.Nothing)))))
 
--- the marks of the four LUN records
-abbrev pub lunOf : ℕ → ℕ → ℕ → Lun
-lunOf working fail copyback = record { working = isSet working; fail = isSet fail; copyback = isSet copyback }
+-- the marks of the four LUN records, and their numbers of blank blocks
+abbrev pub lunOf : ℕ → ℕ → ℕ → ℕ → Lun
+lunOf working fail copyback blank =
+    record { working = isSet working; fail = isSet fail; copyback = isSet copyback; blank = blank }
 
-abbrev pub lunsOf : List ℕ → List ℕ → List ℕ → List Lun
-lunsOf w f c =
-    lunOf (getD w 0 0) (getD f 0 0) (getD c 0 0) ∷ lunOf (getD w 1 0) (getD f 1 0) (getD c 1 0)
-    ∷ lunOf (getD w 2 0) (getD f 2 0) (getD c 2 0) ∷ lunOf (getD w 3 0) (getD f 3 0) (getD c 3 0) ∷ []
+abbrev pub lunsOf : List ℕ → List ℕ → List ℕ → List ℕ → List Lun
+lunsOf w f c b =
+    lunOf (getD w 0 0) (getD f 0 0) (getD c 0 0) (getD b 0 0) ∷ lunOf (getD w 1 0) (getD f 1 0) (getD c 1 0) (getD b 1 0)
+    ∷ lunOf (getD w 2 0) (getD f 2 0) (getD c 2 0) (getD b 2 0) ∷ lunOf (getD w 3 0) (getD f 3 0) (getD c 3 0) (getD b 3 0) ∷ []
 
 abbrev pub workingOf : List Lun → List ℕ
 workingOf luns =
@@ -98,6 +99,9 @@ abbrev pub copybackOf : List Lun → List ℕ
 copybackOf luns =
     markByte (copybackAt luns 0) ∷ markByte (copybackAt luns 1) ∷ markByte (copybackAt luns 2)
     ∷ markByte (copybackAt luns 3) ∷ []
+
+abbrev pub blankOf : List Lun → List ℕ
+blankOf luns = blankAt luns 0 ∷ blankAt luns 1 ∷ blankAt luns 2 ∷ blankAt luns 3 ∷ []
 
 -- the same numbers
 unfoldable pub sameCycles : Cycles → Cycles → Bool

@@ -10,6 +10,7 @@ use numbers::Place;
 use numbers::four_marks;
 use numbers::is_set;
 use numbers::mark_byte;
+use numbers::of_blank;
 use numbers::of_copyback;
 use numbers::of_fail;
 use numbers::of_output;
@@ -76,6 +77,7 @@ pub struct Image {
     pub output: u8,
     pub copyback: [u8; 4],
     pub kept: u8,
+    pub blank: [u16; 4],
 }
 
 pub fn cycles_in(i: Image) -> Cycles
@@ -136,7 +138,8 @@ pub fn unpack(i: Image) -> Target
     let working = i.working;
     let fail = i.fail;
     let copyback = i.copyback;
-    let luns = to_luns(working, fail, copyback);
+    let blank = i.blank;
+    let luns = to_luns(working, fail, copyback, blank);
     let sequence = to_sequence(cycles_in(i));
     let output = to_output(place_in(i));
     let kept = to_output(kept_in(i));
@@ -169,6 +172,7 @@ fn image_from(t: Target, c: Cycles, p: Place, k: Place) -> Image
     let working = of_working(luns);
     let fail = of_fail(luns);
     let copyback = of_copyback(luns);
+    let blank = of_blank(luns);
     Image {
         data_bytes: g.bytes,
         spare_bytes: g.spare,
@@ -202,6 +206,7 @@ fn image_from(t: Target, c: Cycles, p: Place, k: Place) -> Image
         output: p.kind,
         copyback,
         kept: k.kind,
+        blank,
     }
 }
 

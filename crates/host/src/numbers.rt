@@ -15,12 +15,13 @@ use target::Wait;
 use target::commands::place_of;
 use target::picks::pick_output;
 use target::picks::pick_sequence;
+use target::records::blank_at;
 use target::records::copyback_at;
 use target::records::failed;
 use target::records::works;
 ghost use mathlib.Core.Path.{_≡_};
 ghost use Rattle.target.specs.Commands.{placeOf};
-ghost use Rattle.host.specs.Numbers.{markByte, isSet, firstAt, sequenceOf, cyclesOf, outputOf, outputPlace, lunOf, lunsOf, workingOf, failOf, copybackOf, sameCycles, samePlace, fourMarks};
+ghost use Rattle.host.specs.Numbers.{markByte, isSet, firstAt, sequenceOf, cyclesOf, outputOf, outputPlace, lunOf, lunsOf, workingOf, failOf, copybackOf, blankOf, sameCycles, samePlace, fourMarks};
 
 // The open sequence as numbers; what it has not is 0.
 pub struct Cycles {
@@ -43,6 +44,9 @@ pub struct Place {
 
 // A mark of each of the four LUN records, as bytes.
 pub type Marks = [u8; 4];
+
+// The number of blank blocks of each of the four LUN records.
+pub type Blanks = [u16; 4];
 
 // A mark as a byte.
 pub fn mark_byte(b: bool) -> u8
@@ -327,23 +331,24 @@ pub fn same_place(a: Place, b: Place) -> bool
     (a.kind == b.kind) & (a.lun == b.lun) & (a.at == b.at)
 }
 
-fn lun_of(working: u8, fail: u8, copyback: u8) -> Lun
-    ensures { λ r. ⌜ r ≡ lunOf working fail copyback ⌝ }
+fn lun_of(working: u8, fail: u8, copyback: u8, blank: u16) -> Lun
+    ensures { λ r. ⌜ r ≡ lunOf working fail copyback blank ⌝ }
 {
     Lun {
         working: is_set(working),
         fail: is_set(fail),
         copyback: is_set(copyback),
+        blank,
     }
 }
 
-pub fn to_luns(working: Marks, fail: Marks, copyback: Marks) -> Luns
-    ensures { λ r. ⌜ r ≡ lunsOf working fail copyback ⌝ }
+pub fn to_luns(working: Marks, fail: Marks, copyback: Marks, blank: Blanks) -> Luns
+    ensures { λ r. ⌜ r ≡ lunsOf working fail copyback blank ⌝ }
 {
-    let a = lun_of(working[0], fail[0], copyback[0]);
-    let b = lun_of(working[1], fail[1], copyback[1]);
-    let c = lun_of(working[2], fail[2], copyback[2]);
-    let d = lun_of(working[3], fail[3], copyback[3]);
+    let a = lun_of(working[0], fail[0], copyback[0], blank[0]);
+    let b = lun_of(working[1], fail[1], copyback[1], blank[1]);
+    let c = lun_of(working[2], fail[2], copyback[2], blank[2]);
+    let d = lun_of(working[3], fail[3], copyback[3], blank[3]);
     [a, b, c, d]
 }
 
@@ -374,6 +379,16 @@ pub fn of_copyback(luns: Luns) -> Marks
     let b = mark_byte(copyback_at(luns, 1));
     let c = mark_byte(copyback_at(luns, 2));
     let d = mark_byte(copyback_at(luns, 3));
+    [a, b, c, d]
+}
+
+pub fn of_blank(luns: Luns) -> Blanks
+    ensures { λ r. ⌜ r ≡ blankOf luns ⌝ }
+{
+    let a = blank_at(luns, 0);
+    let b = blank_at(luns, 1);
+    let c = blank_at(luns, 2);
+    let d = blank_at(luns, 3);
     [a, b, c, d]
 }
 

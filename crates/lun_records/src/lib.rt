@@ -7,24 +7,29 @@ use target::Luns;
 use target::Row;
 use target::Sequence;
 use target::address::lun_of;
+use target::commands::Act;
 use target::commands::closes_copyback;
 use target::commands::needs_copyback;
 use target::commands::second_row;
 use target::events::is_reset;
 use target::picks::pick_luns;
+use target::records::all_readied;
+use target::records::blank_at;
 use target::records::lun_at;
 use target::records::lun_begun;
 use target::records::lun_closed;
 use target::records::lun_finished;
-use target::records::lun_ready;
 use target::views::Ended;
 use target::views::Ender;
 use target::views::Given;
 use target::views::completed;
 use target::views::ending;
 ghost use mathlib.Core.Path.{_≡_};
+ghost use mathlib.Core.Bool.{true};
+ghost use Prim.Native.Nat.{_-_};
 ghost use lib.ListN.{set};
-ghost use Rattle.lun_records.specs.LunsAfter.{begun, endCloses, endedLuns, addressedLuns, finished, lunsAfter};
+ghost use Rattle.target.specs.Sizes.{inLimits};
+ghost use Rattle.lun_records.specs.LunsAfter.{begun, oneMore, blankAfter, endCloses, endedLuns, addressedLuns, finished, lunsAfter};
 
 // One LUN's record replaced, if there is such a LUN.
 pub fn with_lun(luns: Luns, l: usize, x: Lun) -> Luns
@@ -37,11 +42,64 @@ pub fn with_lun(luns: Luns, l: usize, x: Lun) -> Luns
     n
 }
 
-pub fn begun(g: Geometry, luns: Luns, r: Row, fail: bool, opens: bool, closes: bool) -> Luns
-    ensures { λ n. ⌜ n ≡ begun g luns r fail opens closes ⌝ }
+pub fn begun(
+    g: Geometry,
+    luns: Luns,
+    r: Row,
+    fail: bool,
+    opens: bool,
+    closes: bool,
+    blank: u16,
+) -> Luns
+    ensures { λ n. ⌜ n ≡ begun g luns r fail opens closes blank ⌝ }
 {
     let l = lun_of(g, r);
-    with_lun(luns, l, lun_begun(lun_at(luns, l), fail, opens, closes))
+    with_lun(
+        luns,
+        l,
+        lun_begun(lun_at(luns, l), fail, opens, closes, blank),
+    )
+}
+
+// One less, and never below 0.
+pub fn one_less(n: u16) -> u16
+    ensures { λ r. ⌜ r ≡ n - 1 ⌝ }
+{
+    if n == 0 { 0 } else { n - 1 }
+}
+
+// One more, and never above the LUN's blocks.
+pub fn one_more(g: Geometry, n: u16) -> u16
+    requires { ⌜ inLimits g ≡ true ⌝ }
+    ensures { λ r. ⌜ r ≡ oneMore g n ⌝ }
+{
+    if (n as usize) < g.blocks { n + 1 } else { n }
+}
+
+// The number of blank blocks moves with a program of a blank block and with an erase of one that is not, where they proceed.
+pub fn blank_after(g: Geometry, a: Act, found: Findings, n: u16) -> u16
+    requires { ⌜ inLimits g ≡ true ⌝ }
+    ensures { λ r. ⌜ r ≡ blankAfter g a found n ⌝ }
+{
+    match a {
+        Act::Nothing => n,
+        Act::Load => n,
+        Act::Program => {
+            if found.proceeds & found.blank {
+                one_less(n)
+            } else {
+                n
+            }
+        }
+        Act::Erase => {
+            if found.proceeds & !found.blank {
+                one_more(g, n)
+            } else {
+                n
+            }
+        }
+        Act::Move => n,
+    }
 }
 
 // 30h, D0h or a copyback's 10h.
@@ -56,6 +114,7 @@ pub fn end_closes(k: Ended) -> bool
 
 // FAIL is 1 where a program or an erase does not proceed.
 pub fn ended_luns(g: Geometry, luns: Luns, k: Ender, found: Findings) -> Luns
+    requires { ⌜ inLimits g ≡ true ⌝ }
     ensures { λ r. ⌜ r ≡ endedLuns g luns k found ⌝ }
 {
     match k {
@@ -64,7 +123,9 @@ pub fn ended_luns(g: Geometry, luns: Luns, k: Ender, found: Findings) -> Luns
             let second = k.second;
             let r = k.row;
             let row = second_row(second);
-            let luns_begun = begun(g, luns, r, !found.proceeds, row.opens, end_closes(k));
+            let a = row.act;
+            let blank = blank_after(g, a, found, blank_at(luns, lun_of(g, r)));
+            let luns_begun = begun(g, luns, r, !found.proceeds, row.opens, end_closes(k), blank);
             pick_luns(row.starts, luns_begun, luns)
         }
     }
@@ -95,12 +156,12 @@ pub fn addressed_luns(g: Geometry, luns: Luns, k: Given) -> Luns
 }
 
 pub fn luns_after(g: Geometry, luns: Luns, s: Sequence, e: Event, found: Findings) -> Luns
+    requires { ⌜ inLimits g ≡ true ⌝ }
     ensures { λ r. ⌜ r ≡ lunsAfter g luns s e found ⌝ }
 {
     let v = e.value;
     if is_reset(e) {
-        let ready = lun_ready();
-        return [ready, ready, ready, ready];
+        return all_readied(luns);
     }
     if e.kind == 0 {
         return ended_luns(g, luns, ending(s, v), found);

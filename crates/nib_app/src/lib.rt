@@ -65,7 +65,7 @@ fn usage_files(out: &mut Paper, p: Pen) -> Pen {
     let p = text(
         out,
         p,
-        b"  nib page FILE              what a parameter page says, and power-on's answer\n",
+        b"  nib page FILE or DIR       what a parameter page says, and power-on's answer; of a folder its blank blocks too\n",
     );
     text(
         out,
@@ -197,7 +197,15 @@ fn on_part(asked: Asked, second: &[u8], third: &[u8], input: i32, out: &mut Pape
                 tell_jobs(part, input, &mut array, out);
             }
         }
-        Asked::Page => {}
+        Asked::Page => show_page(
+            second,
+            out,
+            &mut page,
+            &mut array,
+            &mut registers,
+            &mut counts,
+            &mut flags,
+        ),
         Asked::Check => {}
         Asked::Parts => {}
         Asked::Version => {}
@@ -223,7 +231,7 @@ fn has_part(asked: Asked) -> bool {
         Asked::Back => false,
         Asked::Jobs => true,
         Asked::JobsOn => true,
-        Asked::Page => false,
+        Asked::Page => true,
         Asked::Check => false,
         Asked::Parts => false,
         Asked::Version => false,
@@ -252,7 +260,7 @@ fn without_part(asked: Asked, second: &[u8], input: i32, out: &mut Paper) {
         Asked::Back => to_text(input, out),
         Asked::Jobs => {}
         Asked::JobsOn => {}
-        Asked::Page => show_page(second, out),
+        Asked::Page => {}
         Asked::Check => show_check(second, out),
         Asked::Parts => show_parts(out),
         Asked::Version => show_version(out),

@@ -1,7 +1,15 @@
-// What a parameter page says.
+// What a parameter page says, and how many blocks of a part folder are blank.
 use libc::STDOUT_FILENO;
+use nib_files::files::join;
+use nib_files::part::Array;
+use nib_files::part::Counts;
+use nib_files::part::Flags;
 use nib_files::part::Page;
+use nib_files::part::Registers;
+use nib_files::part::load;
 use nib_files::part::page_in;
+use nib_files::part::power;
+use nib_files::part::refuse;
 use nib_print::input::printable;
 use nib_print::pen::Paper;
 use nib_print::pen::Pen;
@@ -32,7 +40,10 @@ use page::fields::pages_a_block;
 use page::fields::programs_a_page;
 use page::fields::spare_bytes;
 use page::fields::stored_crc;
+use power::PowerAnswer;
 use slices::byte_at;
+use target::Target;
+use target::records::blank_at;
 
 fn label(out: &mut Paper, p: Pen, words: &[u8]) -> Pen {
     let p = text(out, p, words);
@@ -192,10 +203,96 @@ fn shown(page: &Page, out: &mut Paper) {
     flush(out, p);
 }
 
-// `nib page`. What is no page is told of as an error, and no field of it is made up.
-pub fn show_page(path: &[u8], out: &mut Paper) {
-    let mut page = [0u8; 256];
-    if page_in(path, &mut page) {
-        shown(&page, out);
+// A LUN and its number of blank blocks, where there is such a LUN.
+fn lun_blank(out: &mut Paper, p: Pen, words: &[u8], t: Target, l: usize) -> Pen {
+    let g = t.geometry;
+    let luns = t.luns;
+    if g.luns <= l {
+        return p;
+    }
+    let p = with_number(out, p, words, l);
+    with_number(out, p, b": ", blank_at(luns, l) as usize)
+}
+
+fn blank_words(out: &mut Paper, p: Pen, t: Target) -> Pen {
+    let p = label(out, p, b"blank blocks");
+    let p = lun_blank(out, p, b"LUN ", t, 0);
+    let p = lun_blank(out, p, b", LUN ", t, 1);
+    let p = lun_blank(out, p, b", LUN ", t, 2);
+    let p = lun_blank(out, p, b", LUN ", t, 3);
+    end_line(out, p)
+}
+
+fn tell_blank(out: &mut Paper, t: Target) {
+    let p = begin(STDOUT_FILENO);
+    let p = blank_words(out, p, t);
+    flush(out, p);
+}
+
+// Power-on counts the folder's blank blocks.
+fn count_blank(
+    dir: &[u8],
+    out: &mut Paper,
+    page: &mut Page,
+    array: &mut Array,
+    registers: &mut Registers,
+    counts: &mut Counts,
+    flags: &mut Flags,
+) {
+    let part = load(dir, page, array, counts, flags);
+    if !part.good {
+        return;
+    }
+    let on = power(part, page, array, registers, counts, flags);
+    let answer = on.answer;
+    let t = on.target;
+    match answer {
+        PowerAnswer::Accepted => tell_blank(out, t),
+        PowerAnswer::Refused(why) => refuse(dir, why),
+    }
+}
+
+// The page is of a part that nib holds; of another the lines above have told.
+fn is_held(page: &[u8]) -> bool {
+    let plan = plan_of(page);
+    match plan {
+        Plan::Sizes(_) => true,
+        Plan::Refused(_) => false,
+        Plan::TooLarge(_) => false,
+    }
+}
+
+fn is_file(path: &[u8]) -> bool {
+    let fd = os::open_read(path);
+    if fd < 0 {
+        return false;
+    }
+    libc::close(fd);
+    true
+}
+
+// `nib page`, of a page in a file or of a part folder's. What is no page is told of as an error, and no field of it is made up.
+pub fn show_page(
+    path: &[u8],
+    out: &mut Paper,
+    page: &mut Page,
+    array: &mut Array,
+    registers: &mut Registers,
+    counts: &mut Counts,
+    flags: &mut Flags,
+) {
+    let mut inside = [0u8; 4096];
+    let n = join(&mut inside, path, b"page");
+    if !is_file(&inside[..n]) {
+        if page_in(path, page) {
+            shown(page, out);
+        }
+        return;
+    }
+    if page_in(&inside[..n], page) {
+        shown(page, out);
+        if is_held(page) {
+            count_blank(path, out, page, array, registers, counts, flags);
+        }
     }
 }

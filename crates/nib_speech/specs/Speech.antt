@@ -22,9 +22,9 @@ use Rattle.nib_text.specs.declared.reading.Said.{Said}
 use Rattle.nib_text.specs.declared.reading.Said.the-variants as said
 use Rattle.nib_text.specs.declared.writing.Writing.{Writing}
 
--- 0.4.0
+-- 0.5.0
 abbrev pub versionNumber : ℕ
-versionNumber = 1024
+versionNumber = 1280
 
 abbrev pub bit : Bool → ℕ
 bit true = 1

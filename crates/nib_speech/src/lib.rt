@@ -41,7 +41,7 @@ ghost use Rattle.nib_speech.specs.Pieces.{reasonWords, backWords, endWor
 pub fn version_number() -> u32
     ensures { λ r. ⌜ r ≡ versionNumber ⌝ }
 {
-    1024
+    1280
 }
 
 #[no_mangle]

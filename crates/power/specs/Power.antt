@@ -1,17 +1,19 @@
--- Power-on (document 01, "Power-on and the parameter page").
+-- Power-on (document 01, "Power-on and the parameter page"; document 02, A7).
 use mathlib.Core.Bool.{Bool, true, false, _&&_, not}
-use mathlib.Core.List.{List}
+use mathlib.Core.List.{List, [], _∷_}
 use Prim.Native.Nat.{ℕ}
 use lib.ListN.{length, replicate}
-use lib.Dec.{eqb}
+use lib.Dec.{eqb, ltb}
 use Rattle.slices.specs.Cells.{allAtMost}
 use Rattle.page.specs.Page.{signed, crcGood, fieldsInLimits, features, optionalCommands, makerId, dataBytes, spareBytes, pagesABlock, blocksALun, lunCount, programsAPage}
 use Rattle.target.specs.Pick.{pick}
-use Rattle.target.specs.Luns.{allReady}
+use Rattle.target.specs.Luns.{lunReady, lunUnused}
 use Rattle.target.specs.Sizes.{sized}
+use Rattle.blocks.specs.Blocks.{blankBlocks}
 use Rattle.target.specs.declared.Geometry.{Geometry}
 use Rattle.target.specs.declared.Words.{Words}
 use Rattle.target.specs.declared.Ids.{Ids}
+use Rattle.target.specs.declared.Lun.{Lun}
 use Rattle.target.specs.declared.Target.{Target}
 use Rattle.target.specs.declared.Sequence.the-variants as sequence
 use Rattle.target.specs.declared.Output.the-variants as output
@@ -44,9 +46,21 @@ geometryOf page = record {
 unfoldable pub wordsOf : List ℕ → Words
 wordsOf page = record { features = features page; optional = optionalCommands page }
 
+-- A7: how many blocks of the LUN are blank, by the walk; one that does not exist has none
+unfoldable pub walked : Geometry → List ℕ → List ℕ → ℕ → ℕ
+walked g counts flags l = pick (ltb l (g .luns)) (blankBlocks g l counts flags) 0
+
+-- a LUN as power-on finds it
+abbrev pub lunFound : Geometry → List ℕ → List ℕ → ℕ → Lun
+lunFound g counts flags l = lunReady (walked g counts flags l)
+
+abbrev pub lunsFound : Geometry → List ℕ → List ℕ → List Lun
+lunsFound g counts flags =
+    lunFound g counts flags 0 ∷ lunFound g counts flags 1 ∷ lunFound g counts flags 2 ∷ lunFound g counts flags 3 ∷ []
+
 -- protect line high, program-clear off, every LUN ready, FAIL 0, no FFh seen
-unfoldable pub poweredOf : List ℕ → ℕ → Target
-poweredOf page device = record {
+unfoldable pub poweredOf : List ℕ → ℕ → List ℕ → List ℕ → Target
+poweredOf page device counts flags = record {
   powered = true;
   geometry = geometryOf page;
   words = wordsOf page;
@@ -55,7 +69,7 @@ poweredOf page device = record {
   clear = false;
   seen = false;
   selected = 0;
-  luns = allReady;
+  luns = lunsFound (geometryOf page) counts flags;
   decoder = record { sequence = sequence.Idle; output = output.Nothing; kept = output.Nothing };
 }
 
@@ -70,7 +84,7 @@ unpowered = record {
   clear = false;
   seen = false;
   selected = 0;
-  luns = allReady;
+  luns = lunUnused ∷ lunUnused ∷ lunUnused ∷ lunUnused ∷ [];
   decoder = record { sequence = sequence.Idle; output = output.Nothing; kept = output.Nothing };
 }
 
@@ -120,14 +134,14 @@ pub record Powering : Type 0 where
   pub registers : List ℕ
 
 -- success fills the registers with FFh; a refusal changes no lent byte and gives an unpowered target
-abbrev pub powering : PowerAnswer → List ℕ → ℕ → List ℕ → Powering
-powering Accepted page device registers = record {
+abbrev pub powering : PowerAnswer → List ℕ → ℕ → List ℕ → List ℕ → List ℕ → Powering
+powering Accepted page device registers counts flags = record {
   answer = Accepted;
-  target = poweredOf page device;
+  target = poweredOf page device counts flags;
   registers = replicate (length registers) 0xff;
 }
-powering (Refused r) page device registers = record { answer = Refused r; target = unpowered; registers = registers }
+powering (Refused r) page device registers counts flags = record { answer = Refused r; target = unpowered; registers = registers }
 
 unfoldable pub powerOf : List ℕ → ℕ → List ℕ → List ℕ → List ℕ → List ℕ → Powering
 powerOf page device array registers counts flags =
-    powering (powerAnswer page (length array) (length registers) counts flags) page device registers
+    powering (powerAnswer page (length array) (length registers) counts flags) page device registers counts flags

@@ -1,4 +1,5 @@
 // Power-on: from a parameter page and the lent buffers to a powered target, or to the right refusal.
+use blocks::blank_blocks;
 use page::fields::blocks_a_lun;
 use page::fields::data_bytes;
 use page::fields::features;
@@ -16,6 +17,8 @@ use slices::fill;
 use target::Decoder;
 use target::Geometry;
 use target::Ids;
+use target::Lun;
+use target::Luns;
 use target::Output;
 use target::Sequence;
 use target::Target;
@@ -27,8 +30,9 @@ ghost use mathlib.Core.Bool.{true};
 ghost use Prim.Native.Nat.{_≤_};
 ghost use lib.ListN.{length};
 ghost use Rattle.slices.specs.Cells.{allAtMost};
+ghost use Rattle.target.specs.Sizes.{inLimits};
 ghost use Rattle.page.specs.Page.{fieldsInLimits, programsAPage};
-ghost use Rattle.power.specs.Power.{powerNumber, geometryOf, wordsOf, poweredOf, unpowered, contentBad, powerAnswer, Powering, powerOf};
+ghost use Rattle.power.specs.Power.{powerNumber, geometryOf, wordsOf, walked, lunFound, lunsFound, poweredOf, unpowered, contentBad, powerAnswer, Powering, powerOf};
 
 pub enum PowerRefusal {
     // 20
@@ -96,17 +100,48 @@ pub fn words_of(page: &[u8]) -> Words
     }
 }
 
-pub fn powered_of(page: &[u8], device: u8) -> Target
+// How many blocks of the LUN are blank; one that does not exist has none.
+pub fn walked(g: Geometry, counts: &[u8], flags: &[u8], l: usize) -> u16
+    requires { ⌜ inLimits g ≡ true ⌝ }
+    ensures { λ n. ⌜ n ≡ walked g (now (counts .entry)) (now (flags .entry)) l ⌝ }
+{
+    if l < g.luns {
+        blank_blocks(g, l, counts, flags)
+    } else {
+        0
+    }
+}
+
+fn lun_found(g: Geometry, counts: &[u8], flags: &[u8], l: usize) -> Lun
+    requires { ⌜ inLimits g ≡ true ⌝ }
+    ensures { λ r. ⌜ r ≡ lunFound g (now (counts .entry)) (now (flags .entry)) l ⌝ }
+{
+    lun_ready(walked(g, counts, flags, l))
+}
+
+// Every LUN ready, with its blank blocks counted.
+fn luns_found(g: Geometry, counts: &[u8], flags: &[u8]) -> Luns
+    requires { ⌜ inLimits g ≡ true ⌝ }
+    ensures { λ r. ⌜ r ≡ lunsFound g (now (counts .entry)) (now (flags .entry)) ⌝ }
+{
+    let a = lun_found(g, counts, flags, 0);
+    let b = lun_found(g, counts, flags, 1);
+    let c = lun_found(g, counts, flags, 2);
+    let d = lun_found(g, counts, flags, 3);
+    [a, b, c, d]
+}
+
+pub fn powered_of(page: &[u8], device: u8, counts: &[u8], flags: &[u8]) -> Target
     requires { ⌜ fieldsInLimits (now page) ≡ true ⌝ }
-    ensures { λ t. ⌜ t ≡ poweredOf (now (page .entry)) device ⌝ }
+    ensures { λ t. ⌜ t ≡ poweredOf (now (page .entry)) device (now (counts .entry)) (now (flags .entry)) ⌝ }
 {
     let geometry = geometry_of(page);
+    let luns = luns_found(geometry, counts, flags);
     let words = words_of(page);
     let ids = Ids {
         maker: maker_id(page),
         device,
     };
-    let ready = lun_ready();
     let decoder = Decoder {
         sequence: Sequence::Idle,
         output: Output::Nothing,
@@ -121,7 +156,7 @@ pub fn powered_of(page: &[u8], device: u8) -> Target
         clear: false,
         seen: false,
         selected: 0,
-        luns: [ready, ready, ready, ready],
+        luns,
         decoder,
     }
 }
@@ -146,7 +181,7 @@ pub fn unpowered() -> Target
         maker: 0,
         device: 0,
     };
-    let ready = lun_ready();
+    let unused = lun_ready(0);
     let decoder = Decoder {
         sequence: Sequence::Idle,
         output: Output::Nothing,
@@ -161,7 +196,7 @@ pub fn unpowered() -> Target
         clear: false,
         seen: false,
         selected: 0,
-        luns: [ready, ready, ready, ready],
+        luns: [unused, unused, unused, unused],
         decoder,
     }
 }
@@ -231,7 +266,7 @@ pub fn power_on(
         }
         PowerAnswer::Accepted => {
             fill(registers, 0xff);
-            let target = powered_of(page, device);
+            let target = powered_of(page, device, counts, flags);
             Powered {
                 answer: PowerAnswer::Accepted,
                 target,

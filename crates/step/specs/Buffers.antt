@@ -27,7 +27,7 @@ use Rattle.target.specs.declared.Output.{Output}
 use Rattle.target.specs.declared.Output.the-variants as output
 use Rattle.target.specs.declared.Work.{Work}
 use Rattle.target.specs.declared.Work.the-variants as work
-use Rattle.blocks.specs.Blocks.{blockIndex, pageIndex, blockBad, pageFull, outOfOrder}
+use Rattle.blocks.specs.Blocks.{blockIndex, pageIndex, blockBad, pageFull, outOfOrder, blankBlock}
 
 -- the page registers after work: FFh, a page of the array, or one byte put at its column
 unfoldable pub registersAfter : Geometry → Work → List ℕ → List ℕ → List ℕ
@@ -72,14 +72,29 @@ proceeds g w act.Program r counts flags = not (blockBad g r flags || pageFull g 
 proceeds g w act.Erase r counts flags = not (blockBad g r flags)
 proceeds g w act.Move r counts flags = true
 
+-- A7: the block that 10h or D0h works on is blank; nothing else asks
+abbrev pub wasBlank : Geometry → Act → Row → List ℕ → List ℕ → Bool
+wasBlank g act.Nothing r counts flags = false
+wasBlank g act.Load r counts flags = false
+wasBlank g act.Program r counts flags = blankBlock g (blockIndex g r) counts flags
+wasBlank g act.Erase r counts flags = blankBlock g (blockIndex g r) counts flags
+wasBlank g act.Move r counts flags = false
+
+-- an event that starts no work
+abbrev pub nothingFound : Findings
+nothingFound = record { proceeds = true; blank = false }
+
 abbrev pub endedFindings : Geometry → Words → Ender → List ℕ → List ℕ → Findings
-endedFindings g w ender.Nothing counts flags = record { proceeds = true }
-endedFindings g w (ender.By k) counts flags = record { proceeds = proceeds g w (secondRow (k .second) .act) (k .row) counts flags }
+endedFindings g w ender.Nothing counts flags = nothingFound
+endedFindings g w (ender.By k) counts flags = record {
+  proceeds = proceeds g w (secondRow (k .second) .act) (k .row) counts flags;
+  blank = wasBlank g (secondRow (k .second) .act) (k .row) counts flags;
+}
 
 -- what the buffers say of the event that comes
 unfoldable pub findings : Geometry → Words → Sequence → Event → List ℕ → List ℕ → Findings
 findings g w s e counts flags =
-    pick (eqb (e .kind) 0) (endedFindings g w (ending s (e .value)) counts flags) (record { proceeds = true })
+    pick (eqb (e .kind) 0) (endedFindings g w (ending s (e .value)) counts flags) nothingFound
 
 -- 128 if the line is high, plus 96 if ready, plus FAIL if ready
 unfoldable pub statusOf : Target → ℕ → ℕ

@@ -9,7 +9,7 @@ use Rattle.target.specs.Pick.{pick}
 use Rattle.target.specs.Words.{hasFeature}
 use Rattle.target.specs.Address.{rowExists}
 use Rattle.target.specs.Commands.{takesColumn, takesRow, cyclesOf, waitsSecond, takesProgramData, inPage}
-use Rattle.target.specs.Luns.{isReady, lunAt}
+use Rattle.target.specs.Luns.{isUnused, lunAt, blankAt}
 use Rattle.target.specs.Place.{showsStatus}
 use Rattle.target.specs.Sizes.{pageSize, columnEnd, inLimits, sized}
 use Rattle.target.specs.declared.Column.{Column}
@@ -59,9 +59,9 @@ outputSound g (output.Feature at) = leb at 4
 abbrev pub keptSound : Geometry → Output → Bool
 keptSound g o = outputSound g o && not (showsStatus o)
 
--- the copyback mark may be either way; a LUN past the count is as power-on left it
+-- of the LUN's blocks none to all are blank, and the copyback mark may be either way; a LUN past the count is as power-on left it
 abbrev pub markSound : Geometry → List Lun → ℕ → Bool
-markSound g luns l = ltb l (g .luns) || isReady (lunAt luns l)
+markSound g luns l = pick (ltb l (g .luns)) (leb (blankAt luns l) (g .blocks)) (isUnused (lunAt luns l))
 
 abbrev pub marksSound : Geometry → List Lun → Bool
 marksSound g luns = markSound g luns 0 && markSound g luns 1 && markSound g luns 2 && markSound g luns 3

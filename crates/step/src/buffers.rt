@@ -1,4 +1,5 @@
 // Work on the lent buffers: each kind of work is a call of a cell on a part.
+use blocks::blank_block;
 use blocks::block_bad;
 use blocks::block_index;
 use blocks::out_of_order;
@@ -39,7 +40,7 @@ ghost use Rattle.target.specs.Sizes.{pageSize, inLimits};
 ghost use Rattle.target.specs.declared.Work.the-variants as work;
 ghost use Rattle.step.specs.Usable.{sequenceSound, outputSound};
 ghost use Rattle.blocks.specs.Blocks.{blockIndex, pageIndex, blockBad, pageFull, higherWritten, outOfOrder};
-ghost use Rattle.step.specs.Buffers.{registersAfter, arrayAfter, countsAfter, proceeds, endedFindings, findings, statusOf, outputByte};
+ghost use Rattle.step.specs.Buffers.{registersAfter, arrayAfter, countsAfter, proceeds, wasBlank, nothingFound, endedFindings, findings, statusOf, outputByte};
 ghost use Rattle.step.specs.Step.{Sizes, Ready, Reaches, EnderReaches};
 
 // A program does not proceed on a bad block, on a full page or out of order, an erase not on a bad block.
@@ -59,13 +60,38 @@ pub fn proceeds(g: Geometry, w: Words, a: Act, r: Row, counts: &[u8], flags: &[u
     }
 }
 
+// The block that is to be programmed or erased is blank.
+pub fn was_blank(g: Geometry, a: Act, r: Row, counts: &[u8], flags: &[u8]) -> bool
+    requires { ⌜ inLimits g ≡ true ⌝ }
+    requires { ⌜ Reaches g a r ⌝ }
+    ensures { λ b. ⌜ b ≡ wasBlank g a r (now (counts .entry)) (now (flags .entry)) ⌝ }
+{
+    match a {
+        Act::Nothing => false,
+        Act::Load => false,
+        Act::Program => blank_block(g, block_index(g, r), counts, flags),
+        Act::Erase => blank_block(g, block_index(g, r), counts, flags),
+        Act::Move => false,
+    }
+}
+
+// An event that starts no work.
+pub fn nothing_found() -> Findings
+    ensures { λ r. ⌜ r ≡ nothingFound ⌝ }
+{
+    Findings {
+        proceeds: true,
+        blank: false,
+    }
+}
+
 pub fn ended_findings(g: Geometry, w: Words, k: Ender, counts: &[u8], flags: &[u8]) -> Findings
     requires { ⌜ inLimits g ≡ true ⌝ }
     requires { ⌜ EnderReaches g k ⌝ }
     ensures { λ r. ⌜ r ≡ endedFindings g w k (now (counts .entry)) (now (flags .entry)) ⌝ }
 {
     match k {
-        Ender::Nothing => Findings { proceeds: true },
+        Ender::Nothing => nothing_found(),
         Ender::By(k) => {
             let second = k.second;
             let r = k.row;
@@ -73,6 +99,7 @@ pub fn ended_findings(g: Geometry, w: Words, k: Ender, counts: &[u8], flags: &[u
             let a = row.act;
             Findings {
                 proceeds: proceeds(g, w, a, r, counts, flags),
+                blank: was_blank(g, a, r, counts, flags),
             }
         }
     }
@@ -93,7 +120,7 @@ pub fn findings(
     if e.kind == 0 {
         ended_findings(g, w, ending(s, e.value), counts, flags)
     } else {
-        Findings { proceeds: true }
+        nothing_found()
     }
 }
 

@@ -22,7 +22,7 @@ use target::commands::takes_row;
 use target::commands::waits_second;
 use target::picks::pick_bool;
 use target::place::shows_status;
-use target::records::is_ready;
+use target::records::is_unused;
 use target::records::lun_at;
 use target::sizes::column_end;
 use target::sizes::in_limits;
@@ -114,10 +114,12 @@ pub fn kept_sound(g: Geometry, o: Output) -> bool
     output_sound(g, o) & !shows_status(o)
 }
 
+// A LUN that exists has at most its blocks blank; one past the count is as power-on left it.
 pub fn mark_sound(g: Geometry, luns: Luns, l: usize) -> bool
     ensures { λ b. ⌜ b ≡ markSound g luns l ⌝ }
 {
-    (l < g.luns) | is_ready(lun_at(luns, l))
+    let x = lun_at(luns, l);
+    pick_bool(l < g.luns, x.blank as usize <= g.blocks, is_unused(x))
 }
 
 pub fn marks_sound(g: Geometry, luns: Luns) -> bool

@@ -50,6 +50,8 @@ pub struct Lun {
     pub fail: bool,
     // a copyback is open: 35h has read a page, and 85h may program it
     pub copyback: bool,
+    // how many blocks have all counts 0 and are not bad
+    pub blank: u16,
 }
 
 // A record for each LUN that a target may have.
@@ -233,6 +235,8 @@ pub enum Reply {
 // What the lent buffers say of the command that comes: a read always proceeds, a program or an erase where its page and block allow it.
 pub struct Findings {
     pub proceeds: bool,
+    // the block that is to be programmed or erased is blank
+    pub blank: bool,
 }
 
 // What an accepted event does to the lent buffers.

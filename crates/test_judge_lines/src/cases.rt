@@ -1,5 +1,7 @@
 // Power-on: damaged parts, limits, single bytes.
 use power::power_number;
+use test_judge_cycles::put_bad;
+use test_judge_cycles::put_reset;
 use test_judge_parts::field;
 use test_judge_parts::parts::fill_buffers;
 use test_judge_parts::parts::load_knobs;
@@ -21,12 +23,11 @@ use test_judge_parts::state::keep;
 use test_judge_parts::state::number;
 use test_judge_parts::state::one_more;
 use test_judge_parts::state::store;
-use test_judge_runs::running::absorb_buffers;
-use test_judge_runs::running::powered;
-use test_judge_runs::running::run_trace;
-use test_judge_traces::jobs::one_job;
-use test_judge_traces::records::put_bad;
-use test_judge_traces::records::put_reset;
+use test_judge_runs::absorb_blanks;
+use test_judge_runs::absorb_buffers;
+use test_judge_runs::powered;
+use test_judge_runs::run_trace;
+use test_judge_traces::traces::one_job;
 use test_kit::numbers::add;
 use test_kit::numbers::get;
 use test_kit::numbers::power;
@@ -197,6 +198,8 @@ fn power_case(
     one_more(g, add(place::REFUSED, r));
     absorb_buffers(g, array, registers, counts, flags);
     show(g, b" power ", r, 0, 0, 0);
+    let t = p.target;
+    absorb_blanks(t, g);
     g[place::LEN] = 0;
     put_reset(g, records);
     if r == 0 {
@@ -204,7 +207,6 @@ fn power_case(
     } else {
         put_bad(g, records);
     }
-    let t = p.target;
     run_trace(
         t,
         g,

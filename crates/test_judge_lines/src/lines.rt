@@ -23,9 +23,10 @@ use test_judge_parts::state::Registers;
 use test_judge_parts::state::State;
 use test_judge_parts::state::fetch;
 use test_judge_parts::state::store;
-use test_judge_runs::running::absorb_buffers;
-use test_judge_runs::running::powered;
-use test_judge_runs::running::run_trace;
+use test_judge_runs::absorb_blanks;
+use test_judge_runs::absorb_buffers;
+use test_judge_runs::powered;
+use test_judge_runs::run_trace;
 use test_judge_traces::traces::make_trace;
 use test_kit::numbers::at_most;
 use test_kit::numbers::times;
@@ -88,10 +89,12 @@ fn power_up(
     let n = g[place::REGISTERS_LEN];
     absorb_front(g, registers, n);
     show(g, b" power ", power_number(answer) as usize, 0, 0, 0);
+    let t = p.target;
+    absorb_blanks(t, g);
     g[place::BUSY] = 0;
     g[place::SELECTED] = 0;
     change_contents(g, kind, page, counts, flags);
-    p.target
+    t
 }
 
 // Trace number 'i' of a line.

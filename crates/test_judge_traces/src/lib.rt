@@ -1,4 +1,3 @@
-// The generator's second part: traces of jobs, wrong cycles and noise.
-pub mod jobs;
-pub mod records;
+// The generator's traces: jobs one after the other, wrong cycles, and noise.
+mod polls;
 pub mod traces;

@@ -1,10 +1,11 @@
 // Noise, wrong cycles, and whole traces.
-use crate::jobs::one_job;
-use crate::records::pick_lun;
-use crate::records::put;
-use crate::records::put_bad;
-use crate::records::put_reset;
-use test_judge_parts::field;
+use crate::polls::poll_job;
+use test_judge_cycles::pick_lun;
+use test_judge_cycles::put;
+use test_judge_cycles::put_bad;
+use test_judge_cycles::put_reset;
+use test_judge_jobs::data_job;
+use test_judge_jobs::other_job;
 use test_judge_parts::knob;
 use test_judge_parts::place;
 use test_judge_parts::random::below;
@@ -221,6 +222,14 @@ fn make_wrong(g: &mut State, records: &mut Bytes, from: usize) {
     }
     let at = add(from, times(2, below(g, n)));
     wrong_at(g, records, at);
+}
+
+pub fn one_job(g: &mut State, records: &mut Bytes, job: usize) {
+    match job {
+        5..=13 => other_job(g, records, job),
+        20..=23 => poll_job(g, records, job),
+        _ => data_job(g, records, job),
+    }
 }
 
 fn put_job(g: &mut State, records: &mut Bytes, kind: usize) {

@@ -66,6 +66,14 @@ fn pages() {
         b"look",
     );
     tried(b"page wrong_page", Asked::Page, b"wrong_page", b"", b"look");
+    tried(
+        b"page tiny after the run",
+        Asked::Page,
+        b"tiny",
+        b"",
+        b"look",
+    );
+    tried(b"page dark", Asked::Page, b"dark", b"", b"look");
 }
 
 fn checks() {

@@ -1,14 +1,14 @@
 // The parts and the cases, by number.
-use crate::parts::Harm;
-use crate::parts::NONE;
-use crate::parts::Part;
-use crate::powers::large;
-use crate::powers::run;
 use target::picks::pick_byte;
 use target::picks::pick_number;
 use test_kit::numbers::byte;
 use test_kit::random::SEED;
 use test_kit::random::drawn;
+use test_pages_powers::parts::Harm;
+use test_pages_powers::parts::NONE;
+use test_pages_powers::parts::Part;
+use test_pages_powers::powers::large;
+use test_pages_powers::powers::run;
 ghost use Prim.Native.Nat.{_<_};
 
 fn t1() -> Part {

@@ -3,8 +3,6 @@
 mod cases;
 mod crcs;
 mod makers;
-mod parts;
-mod powers;
 
 use cases::accepted;
 use cases::bits;

@@ -1,9 +1,4 @@
 // Makers' pages, and pages of drawn bytes.
-use crate::parts::front;
-use crate::parts::lengths_of;
-use crate::parts::plus;
-use crate::powers::flagged;
-use crate::powers::small;
 use page::crc::page_crc;
 use page::fields::address_cycles;
 use page::fields::blocks_a_lun;
@@ -27,6 +22,11 @@ use test_kit::random::drawn;
 use test_kit::write::hexed;
 use test_kit::write::labelled;
 use test_kit::write::text;
+use test_pages_powers::parts::front;
+use test_pages_powers::parts::lengths_of;
+use test_pages_powers::parts::plus;
+use test_pages_powers::powers::flagged;
+use test_pages_powers::powers::small;
 
 // A maker's page.
 fn show_fields(page: &[u8]) {

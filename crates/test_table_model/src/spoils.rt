@@ -83,6 +83,20 @@ fn copying(t: Target, field: usize, v: usize) -> Target {
     n
 }
 
+// The number of blank blocks of a LUN.
+fn counted(t: Target, l: usize, v: usize) -> Target {
+    let luns = t.luns;
+    let mut n = t;
+    if l < 4 {
+        let x = luns[l];
+        n.luns[l] = Lun {
+            blank: (v % 65536) as u16,
+            ..x
+        };
+    }
+    n
+}
+
 fn output(field: usize, v: usize) -> Output {
     match field {
         16 => Output::Register {
@@ -211,6 +225,7 @@ pub fn spoiled(t: Target, field: usize, v: usize) -> Target {
             Target { words, ..t }
         }
         11..=12 => copying(t, field, v),
+        13..=15 => counted(t, sub(field, 13), v),
         16..=22 => held(t, Sequence::Idle, output(field, v)),
         48..=54 => behind(t, output(sub(field, 32), v)),
         _ => held(t, sequence(field, v), Output::Nothing),

@@ -13,7 +13,6 @@ use Rattle.blocks.specs.Blocks.{pageIndex}
 use Rattle.step.specs.Buffers.{countsAfter}
 use Rattle.step.specs.Step.{State, stepOf}
 use Rattle.trace.specs.Run.{Running, ranAll, start}
-use Rattle.thm_steps.specs.Steps.{command}
 use Rattle.thm_cases.specs.Parts.{Part, t1, t1With, first, run, told}
 use Rattle.thm_cases.specs.Cases.{reset, program, read, accepted, byte, dataOut}
 
@@ -21,11 +20,15 @@ use Rattle.thm_cases.specs.Cases.{reset, program, read, accepted, byte, 
 abbrev pub reached : Part → List Event → Running
 reached p es = ranAll (p .params) (p .flags) es (start (first p .target) (first p .buffers) [])
 
+-- FFh
+abbrev pub resetCommand : Event
+resetCommand = record { kind = 0; value = 0xff }
+
 -- "refusing everything" breaks "at no other time": after any events FFh is accepted
 abbrev pub NotRefusedAlways : Type 0
 NotRefusedAlways =
     (es : List Event)
-    → stepOf (reached t1 es .target) (command 0xff) (t1 .params) (reached t1 es .buffers) (t1 .flags) .reply ≡ reply.Accepted
+    → stepOf (reached t1 es .target) resetCommand (t1 .params) (reached t1 es .buffers) (t1 .flags) .reply ≡ reply.Accepted
 
 -- a page that holds A5h, programmed with 3Ch and then with 0Fh
 abbrev pub once : List ℕ

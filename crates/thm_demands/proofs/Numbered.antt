@@ -32,14 +32,15 @@ unfolding orRefused
 number-or true r a n h = refl
 number-or false r a n h = h
 
-answered : (a : PowerAnswer) (page : List ℕ) (device : ℕ) (registers : List ℕ) → powering a page device registers .answer ≡ a
-answered power.Accepted page device registers = refl
-answered (power.Refused r) page device registers = refl
+answered : (a : PowerAnswer) (page : List ℕ) (device : ℕ) (registers counts flags : List ℕ)
+    → powering a page device registers counts flags .answer ≡ a
+answered power.Accepted page device registers counts flags = refl
+answered (power.Refused r) page device registers counts flags = refl
 
 pub power-exact : PowerExact
 unfolding powerOf powerAnswer
 power-exact page device array registers counts flags =
-    ap powerNumber (answered (powerAnswer page (length array) (length registers) counts flags) page device registers)
+    ap powerNumber (answered (powerAnswer page (length array) (length registers) counts flags) page device registers counts flags)
     ∙ number-or (wrongLength page) PageLength _ _
     (number-or (unsigned page) Signature _ _
     (number-or (crcBad page) Crc _ _

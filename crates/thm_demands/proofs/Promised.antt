@@ -4,14 +4,14 @@ use mathlib.Core.Path.{_≡_, refl, sym, ap, subst, _∙_}
 use mathlib.Core.Bool.{Bool, true, false, _&&_, _||_, not, false≢true}
 use mathlib.Core.List.{List, [], _∷_}
 use mathlib.Core.Logic.{_⊎_, inl, inr, ⊎-elim}
-use Prim.Native.Nat.{ℕ, _+_, _*_, _≤_, _<_}
+use Prim.Native.Nat.{ℕ, zero, suc, _+_, _*_, _≤_, _<_}
 use native.Mathlib.Omega.{arith}
 use lib.ListN.{length, replicate, length-replicate}
 use lib.Dec.{eqb, ltb, leb}
-use borrow.Author.Tests.{not-true, not-false, eqb-true, lt-ltb, eq-eqb}
+use borrow.Author.Tests.{not-true, not-false, eqb-true, lt-ltb, le-leb, eq-eqb}
 use Rattle.target.specs.Pick.{pick, orElse}
 use Rattle.target.specs.Events.{isBus, isReset, badRecord}
-use Rattle.target.specs.Luns.{allReady}
+use Rattle.target.specs.Luns.{lunReady, isUnused, allReadied}
 use Rattle.target.specs.Numbers.{numberOf}
 use Rattle.target.specs.Views.{completed, taking, ending, endedBy, endedWith, endsWith}
 use Rattle.target.specs.Place.{isOpen}
@@ -58,15 +58,17 @@ use Rattle.rules.proofs.Passed.{all-passed}
 use Rattle.effects.specs.Effects.{acted, endedWork, firstWork, commandWork, addressWork, dataWork, workOf, targetAfter, targetRefused}
 use Rattle.lun_records.specs.LunsAfter.{lunsAfter}
 use Rattle.page.specs.Page.{fieldsInLimits}
-use Rattle.power.specs.Power.{geometryOf, poweredOf, unpowered, wrongLength, fieldBad, bufferBad, powerAnswer, powering, powerOf}
+use Rattle.power.specs.Power.{geometryOf, walked, lunsFound, poweredOf, unpowered, wrongLength, fieldBad, bufferBad, powerAnswer, powering, powerOf}
 use Rattle.power.specs.declared.PowerRefusal.{PowerRefusal}
 use Rattle.power.specs.declared.PowerAnswer.{PowerAnswer}
 use Rattle.power.specs.declared.PowerAnswer.the-variants as power
 use Rattle.power.proofs.Answers.{Passed, all-passed as all-power-passed, limited, worded, accepted-limited}
+use Rattle.blocks.specs.Blocks.{blankBlock, blanksFrom, blankBlocks}
 use Rattle.step.specs.Usable.{marksSound, recordSound, usable}
 use Rattle.step.specs.Buffers.{arrayAfter, countsAfter}
 use Rattle.step.specs.Step.{Buffers, Outcome, State, replyOf, worked, acceptedBy, accepted, byVerdict, steady, stepOf}
-use Rattle.thm_kept.proofs.Choice.{by-pick, and-true, then-not, or-true}
+use Rattle.thm_kept.proofs.Choice.{by-pick, and-true, then-not}
+use Rattle.thm_kept.proofs.Marks.{each-mark}
 use Rattle.thm_kept.proofs.Kept.{Fit, step-usable, step-steady, all-sound}
 use Rattle.thm_demands.specs.Runs.{stepAt, left, after, poweredUp}
 use Rattle.thm_demands.specs.Exact.{rulesOf, speaks}
@@ -192,7 +194,8 @@ pub refused-power : RefusedPower
 unfolding powerOf
 refused-power page device array registers counts flags r h = by (powerAnswer page (length array) (length registers) counts flags) h
   where
-    by : (a : PowerAnswer) → powering a page device registers .answer ≡ power.Refused r → powering a page device registers ≡ record { answer = power.Refused r; target = unpowered; registers = registers }
+    by : (a : PowerAnswer) → powering a page device registers counts flags .answer ≡ power.Refused r
+        → powering a page device registers counts flags ≡ record { answer = power.Refused r; target = unpowered; registers = registers }
     by power.Accepted k = absurd (apart (cc))
     by (power.Refused q) k = let is : q ≡ r = cc in ap (λ (x : PowerRefusal). record { answer = power.Refused x; target = unpowered; registers = registers }) is
 
@@ -339,22 +342,44 @@ line-low-run page flags (e ∷ es) s h =
 
 -- Runs from an accepted power-on.
 
-powered-sound : (page : List ℕ) (device : ℕ) → fieldsInLimits page ≡ true → recordSound (poweredOf page device) ≡ true
+-- the walk finds no more blank blocks than it passes
+blanks-few : (g : Geometry) (first n : ℕ) (counts flags : List ℕ) → blanksFrom g first n counts flags ≤ n
+blanks-few g first zero counts flags = omega arith
+blanks-few g first (suc n) counts flags =
+    let one : pick (blankBlock g (first + n) counts flags) 1 0 ≤ 1 =
+    by-pick (λ (m : ℕ). m ≤ 1) (blankBlock g (first + n) counts flags) 1 0 (λ _. omega arith) (λ _. omega arith) in
+    omega (arith, one, blanks-few g first n counts flags)
+
+-- so each LUN is found as rule 13 asks
+found-within : (g : Geometry) (l : ℕ) (counts flags : List ℕ) (there : Bool)
+    → pick there (leb (pick there (blankBlocks g l counts flags) 0) (g .blocks))
+    (isUnused (lunReady (pick there (blankBlocks g l counts flags) 0))) ≡ true
+unfolding blankBlocks
+found-within g l counts flags true = le-leb _ _ (blanks-few g (l * g .blocks) (g .blocks) counts flags)
+found-within g l counts flags false = refl
+
+found-sound : (g : Geometry) (counts flags : List ℕ) → marksSound g (lunsFound g counts flags) ≡ true
+unfolding walked
+found-sound g counts flags =
+    let each : (l : ℕ) → _ = λ l. found-within g l counts flags (ltb l (g .luns)) in
+    each-mark g (lunsFound g counts flags) (each 0) (each 1) (each 2) (each 3)
+
+powered-sound : (page : List ℕ) (device : ℕ) (counts flags : List ℕ) → fieldsInLimits page ≡ true
+    → recordSound (poweredOf page device counts flags) ≡ true
 unfolding poweredOf
-powered-sound page device h =
+powered-sound page device counts flags h =
     let fine = limited page h in
     let m = limits (geometryOf page) fine in
-    let g = geometryOf page in
-    all-sound _ refl fine (worded page h) (m .luns-min) (rw (or-true (ltb 0 (g .luns)), or-true (ltb 1 (g .luns)), or-true (ltb 2 (g .luns)), or-true (ltb 3 (g .luns)))) refl refl refl
+    all-sound _ refl fine (worded page h) (m .luns-min) (found-sound (geometryOf page) counts flags) refl refl refl
 
 module _ (page : List ℕ) (device : ℕ) (array registers counts flags : List ℕ) (on : powerAnswer page (length array) (length registers) counts flags ≡ power.Accepted) where
-  pub powered-fit : Fit (poweredUp page device array registers counts .target) page (poweredUp page device array registers counts .buffers) flags
+  pub powered-fit : Fit (poweredUp page device array registers counts flags .target) page (poweredUp page device array registers counts flags .buffers) flags
   unfolding usable wrongLength bufferBad poweredOf
   powered-fit =
       let p = all-power-passed page (length array) (length registers) counts flags on in
       let long : eqb (length page) 256 ≡ true = not-false _ (p .right-length) in
       let fits = not-false (sized (geometryOf page) (length array) (length registers) (length counts) (length flags)) (p .buffers) in
-      and-true (recordSound (poweredOf page device)) _ (powered-sound page device (accepted-limited page (length array) (length registers) counts flags on))
+      and-true (recordSound (poweredOf page device counts flags)) _ (powered-sound page device counts flags (accepted-limited page (length array) (length registers) counts flags on))
       (and-true (eqb (length page) 256) _ long (rw (length-replicate) fits))
 
   pub run-fit : (es : List Event) (s : State) → Fit (s .target) page (s .buffers) flags → Fit (after page flags es s .target) page (after page flags es s .buffers) flags
@@ -370,7 +395,7 @@ pub reset-verdict : (t : Target) → verdict t reset ≡ verdicts.Accepted
 unfolding orElse beforeReset unknown rowOf firstOf secondOf secondRow classOf offered misplaced fits othersBusy lineLow
 reset-verdict t = command-verdict t 0xff ∙ rw (and-none (isOpen (t .decoder .sequence)))
 
-reset-steady : (s : State) (page flags : List ℕ) → (steady (s .target) reset page (s .buffers) flags .reply ≡ reply.Accepted) × (steady (s .target) reset page (s .buffers) flags .target .luns ≡ allReady)
+reset-steady : (s : State) (page flags : List ℕ) → (steady (s .target) reset page (s .buffers) flags .reply ≡ reply.Accepted) × (steady (s .target) reset page (s .buffers) flags .target .luns ≡ allReadied (s .target .luns))
 unfolding steady byVerdict accepted acceptedBy replyOf targetAfter lunsAfter
 reset-steady s page flags = rw (reset-verdict (s .target)) (refl, refl)
 

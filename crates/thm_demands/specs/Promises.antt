@@ -5,7 +5,7 @@ use mathlib.Core.List.{List, [], _∷_}
 use mathlib.Core.Logic.{_⊎_}
 use Prim.Native.Nat.{ℕ}
 use lib.ListN.{length}
-use Rattle.target.specs.Luns.{allReady}
+use Rattle.target.specs.Luns.{allReadied}
 use Rattle.target.specs.Numbers.{numberOf}
 use Rattle.target.specs.Events.{isBus}
 use Rattle.target.specs.declared.Event.{Event}
@@ -90,18 +90,21 @@ LineLowRun =
 abbrev pub reset : Event
 reset = record { kind = 0; value = 0xff }
 
--- "Once powered, one FFh from any state a run can reach, with its own buffers lent, leaves every LUN ready"
+-- "Once powered, one FFh from any state a run can reach, with its own buffers lent, leaves every LUN ready";
+-- its number of blank blocks stays (document 02, A7)
 abbrev pub ResetReadies : Type 0
 ResetReadies =
     (page : List ℕ) (device : ℕ) (array registers counts flags : List ℕ)
     → powerAnswer page (length array) (length registers) counts flags ≡ power.Accepted
-    → (es : List Event) (s : State) → s ≡ after page flags es (poweredUp page device array registers counts)
-    → (stepAt page flags s reset .reply ≡ Accepted) × (stepAt page flags s reset .target .luns ≡ allReady)
+    → (es : List Event) (s : State) → s ≡ after page flags es (poweredUp page device array registers counts flags)
+    → (stepAt page flags s reset .reply ≡ Accepted)
+    × (stepAt page flags s reset .target .luns ≡ allReadied (s .target .luns))
 
 -- Rule 13 is sound: from an accepted power-on, no run with its own buffers ever meets it
 abbrev pub NeverUnusable : Type 0
 NeverUnusable =
     (page : List ℕ) (device : ℕ) (array registers counts flags : List ℕ)
     → powerAnswer page (length array) (length registers) counts flags ≡ power.Accepted
-    → (es : List Event) (e : Event) (s : State) → s ≡ after page flags es (poweredUp page device array registers counts)
+    → (es : List Event) (e : Event) (s : State)
+    → s ≡ after page flags es (poweredUp page device array registers counts flags)
     → (r : Refusal) → stepAt page flags s e .reply ≡ Refused r → numberOf r ≡ 13 → ⊥

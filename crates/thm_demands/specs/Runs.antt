@@ -20,8 +20,8 @@ after page flags [] s = s
 after page flags (e ∷ es) s = after page flags es (left (stepAt page flags s e))
 
 -- where an accepted power-on leaves a run: the powered record, the registers FFh, array and counts as they were lent
-abbrev pub poweredUp : List ℕ → ℕ → List ℕ → List ℕ → List ℕ → State
-poweredUp page device array registers counts = record {
-  target = poweredOf page device;
+abbrev pub poweredUp : List ℕ → ℕ → List ℕ → List ℕ → List ℕ → List ℕ → State
+poweredUp page device array registers counts flags = record {
+  target = poweredOf page device counts flags;
   buffers = record { array = array; registers = replicate (length registers) 0xff; counts = counts };
 }

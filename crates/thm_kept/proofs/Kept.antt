@@ -92,7 +92,7 @@ accepted-sound t e found h p =
     let m = limits g (k .limited) in
     all-sound _ (k .powered) (k .limited) (k .words)
     (selected-kept g (t .selected) (t .decoder .sequence) e (m .luns-min) (k .selected) (k .sequence) (near t e p))
-    (marks-kept g (t .luns) (t .decoder .sequence) e found (k .sequence) (k .marks) (near t e p) (finishes t e p))
+    (marks-kept g (t .luns) (t .decoder .sequence) e found (m .luns-max) (k .sequence) (k .marks) (near t e p) (finishes t e p))
     (sequence-kept g (t .words) (t .decoder) e (k .sequence) (near t e p) (taken t e p))
     (output-kept g (t .selected) (t .decoder) e (k .selected) (k .sequence) (k .output) (put-out-sound t k) (near t e p) (more t e p))
     (memory-kept g (t .decoder) e (k .output) (k .kept))

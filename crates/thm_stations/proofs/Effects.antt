@@ -10,9 +10,9 @@ use lib.ListN.{set}
 use lib.Dec.{eqb, leb}
 use borrow.Author.Tests.{leb-false, not-true}
 use Rattle.slices.proofs.Parts.{getD-alike}
-use Rattle.target.specs.Address.{lunOf, rowExists}
+use Rattle.target.specs.Address.{lunOf, blockExists, rowExists}
 use Rattle.target.specs.Commands.{clearsRegister, closesCopyback, waitsFor, cyclesOf, firstOf, secondRow}
-use Rattle.target.specs.Luns.{lunAt, lunBegun, lunClosed}
+use Rattle.target.specs.Luns.{lunAt, lunBegun, lunClosed, blankAt}
 use Rattle.target.specs.Pick.{pick}
 use Rattle.target.specs.Place.{isOpen, isBare}
 use Rattle.target.specs.Sizes.{pageSize}
@@ -43,17 +43,18 @@ use Rattle.target.proofs.Both.{both}
 use Rattle.rules.specs.Rules.{fits, outputEnded, pastEnd}
 use Rattle.effects.specs.Effects.{sequenceAfter, endedOutput, firstOutput, commandOutput, outputAfter, clearSet, clearAfter, highAfter, targetAfter, acted, endedWork, firstWork, commandWork, addressWork, dataWork, workOf}
 use Rattle.memory.specs.Memory.{keptAfter}
-use Rattle.lun_records.specs.LunsAfter.{begun, endCloses, endedLuns, addressedLuns, lunsAfter}
+use Rattle.lun_records.specs.LunsAfter.{begun, blankAfter, endCloses, endedLuns, addressedLuns, lunsAfter}
 use Rattle.step.specs.Usable.{sequenceSound}
-use Rattle.blocks.specs.Blocks.{pageFull, outOfOrder, blockBad}
-use Rattle.step.specs.Buffers.{proceeds, endedFindings, findings, statusOf, outputByte}
+use Rattle.blocks.specs.Blocks.{blockIndex, pageFull, outOfOrder, blockBad, blankBlock}
+use Rattle.blocks.proofs.Places.{row-block}
+use Rattle.step.specs.Buffers.{proceeds, wasBlank, endedFindings, findings, statusOf, outputByte}
 use Rattle.step.specs.Step.{Buffers, replyOf, Reaches, EnderReaches}
 use Rattle.step.proofs.WorkReady.{ender-reaches}
 use Rattle.thm_kept.proofs.Choice.{by-pick}
 use Rattle.jobs.specs.Cycles.{Cycle, command, address, dataIn, dataOut}
 use Rattle.thm_stations.specs.Jobs.{eventOf}
 use Rattle.thm_stations.proofs.Agreement.{RegisterAgrees, CountsAgree, SizesOf}
-use Rattle.thm_stations.proofs.OwnWork.{Mine, count-alike, higher-alike}
+use Rattle.thm_stations.proofs.OwnWork.{Mine, count-alike, higher-alike, blank-alike}
 use Rattle.thm_stations.proofs.Records.{Changed, as-were, become-by, changed-pick}
 use Rattle.thm_stations.proofs.Halves.{Fixed, fixedOf, made, refixed}
 use Rattle.thm_stations.proofs.Course.{held, isNobody, aimedFound, Plain, plainly, EndedOf, GivenOf, TakerOf, OutputOf, CycleOf, Course, Spared, spared-behind, sequence-any, fits-any, Standing, equal, Alike}
@@ -121,9 +122,11 @@ module _ (g : Geometry) (l : ℕ) where
   -- The LUN records.
 
   module _ (xs ys : List Lun) (lun : lunAt xs l ≡ lunAt ys l) where
-    begun-changed : (m : ℕ) (fail opens closes : Bool) → m ≡ l
-        → Changed l xs ys (set xs m (lunBegun (lunAt xs m) fail opens closes)) (set ys m (lunBegun (lunAt ys m) fail opens closes))
-    begun-changed m fail opens closes q = rw q (become-by (λ (u : Lun). lunBegun u fail opens closes) lun)
+    begun-changed : (m : ℕ) (fail opens closes : Bool) (a : Act) (found : Findings) → m ≡ l
+        → Changed l xs ys (set xs m (lunBegun (lunAt xs m) fail opens closes (blankAfter g a found (blankAt xs m))))
+        (set ys m (lunBegun (lunAt ys m) fail opens closes (blankAfter g a found (blankAt ys m))))
+    begun-changed m fail opens closes a found q =
+        rw q (become-by (λ (u : Lun). lunBegun u fail opens closes (blankAfter g a found (u .blank))) lun)
 
     closed-changed : (m : ℕ) → m ≡ l → Changed l xs ys (set xs m (lunClosed (lunAt xs m))) (set ys m (lunClosed (lunAt ys m)))
     closed-changed m q = rw q (become-by lunClosed lun)
@@ -140,7 +143,8 @@ module _ (g : Geometry) (l : ℕ) where
     unfolding EndedOf
     ended-changed ender.Nothing found w = as-were
     ended-changed (ender.By k) found w =
-        changed-pick (secondRow (k .second) .starts) (begun-changed (lunOf g (k .row)) (not (found .proceeds)) (secondRow (k .second) .opens) (endCloses k) (w .1))
+        changed-pick (secondRow (k .second) .starts) (begun-changed (lunOf g (k .row)) (not (found .proceeds)) (secondRow (k .second) .opens) (endCloses k)
+        (secondRow (k .second) .act) found (w .1))
 
     pub luns-changed : (s : Sequence) (o : Output) (c : Cycle) (found : Findings) → CycleOf g l c s o
         → Changed l xs ys (lunsAfter g xs s (eventOf c) found) (lunsAfter g ys s (eventOf c) found)
@@ -195,7 +199,7 @@ module _ (g : Geometry) (l : ℕ) where
         rest = spared-behind g l cs spared;
       }
 
--- What a second command asks of the buffers: whether it proceeds.
+-- What a second command asks of the buffers: whether it proceeds, and whether its block is blank.
 module _ (g : Geometry) (l : ℕ) (flags : List ℕ) (B C : Buffers) (sizes : SizesOf g B) (sizesʳ : SizesOf g C) (agree : CountsAgree g l B C) where
   full-alike : (r : Row) → rowExists g r ≡ true → lunOf g r ≡ l → pageFull g r (B .counts) ≡ pageFull g r (C .counts)
   unfolding pageFull
@@ -215,12 +219,27 @@ module _ (g : Geometry) (l : ℕ) (flags : List ℕ) (B C : Buffers) (sizes : Si
   proceeds-alike w act.Erase r there q = refl
   proceeds-alike w act.Move r there q = refl
 
+  -- a program's block and an erase's exist
+  block-alike : (r : Row) → blockExists g r ≡ true → lunOf g r ≡ l
+      → blankBlock g (blockIndex g r) (B .counts) flags ≡ blankBlock g (blockIndex g r) (C .counts) flags
+  block-alike r there q = blank-alike g B C sizes sizesʳ flags r there (rw q agree)
+
+  blank-found : (a : Act) (r : Row) → Reaches g a r → lunOf g r ≡ l
+      → wasBlank g a r (B .counts) flags ≡ wasBlank g a r (C .counts) flags
+  unfolding Reaches
+  blank-found act.Nothing r there q = refl
+  blank-found act.Load r there q = refl
+  blank-found act.Program r there q = block-alike r (row-block g r there) q
+  blank-found act.Erase r there q = block-alike r there q
+  blank-found act.Move r there q = refl
+
   ended-findings : (w : Words) (x : Ender) → EnderReaches g x → EndedOf g l x
       → endedFindings g w x (B .counts) flags ≡ endedFindings g w x (C .counts) flags
   unfolding EndedOf EnderReaches
   ended-findings words ender.Nothing there w = refl
   ended-findings words (ender.By k) there w =
-      ap (λ (b : Bool). record { proceeds = b }) (proceeds-alike words (secondRow (k .second) .act) (k .row) there (w .1))
+      let a = secondRow (k .second) .act in
+      λ j. record { proceeds = proceeds-alike words a (k .row) there (w .1) j; blank = blank-found a (k .row) there (w .1) j }
 
   pub findings-alike : (w : Words) (s : Sequence) (o : Output) (c : Cycle) → sequenceSound g s ≡ true → CycleOf g l c s o
       → findings g w s (eventOf c) (B .counts) flags ≡ findings g w s (eventOf c) (C .counts) flags

@@ -6,7 +6,7 @@ use mathlib.Core.Path.{_≡_, refl, sym, ap, _∙_}
 use mathlib.Core.List.{List}
 use Prim.Native.Nat.{ℕ, _<_}
 use lib.Seq.{ext-getD}
-use Rattle.target.specs.Luns.{lunReady}
+use Rattle.target.specs.Luns.{lunUnused}
 use Rattle.target.specs.declared.Event.{Event}
 use Rattle.step.specs.Step.{Buffers, State}
 use Rattle.thm_stations.specs.Mixture.{Owned, serial, Mixture}
@@ -55,7 +55,7 @@ module _ (params flags : List ℕ) (s : State) (es : List (Owned Event)) (ok : S
     array = ap (λ (b : Buffers). b .array) memory;
     counts = ap (λ (b : Buffers). b .counts) memory;
     registers = ap (λ (b : Buffers). b .registers) memory;
-    luns = ext-getD lunReady _ _ (agree 0 .fine .four ∙ sym (agree 0 .fineʳ .four)) (λ l h. agree l .lun);
+    luns = ext-getD lunUnused _ _ (agree 0 .fine .four ∙ sym (agree 0 .fineʳ .four)) (λ l h. agree l .lun);
   }
 
   undisturbed : (l : ℕ) → Undisturbed params flags s es l

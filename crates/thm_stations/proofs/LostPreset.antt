@@ -26,7 +26,7 @@ use Rattle.effects.specs.Effects.{sequenceAfter, outputAfter, selectedAfter, cl
 use Rattle.memory.specs.Memory.{keptAfter}
 use Rattle.lun_records.specs.LunsAfter.{lunsAfter}
 use Rattle.step.specs.Usable.{recordSound, usable}
-use Rattle.blocks.specs.Blocks.{blockIndex, pageIndex, blockBad, pageFull, higherWritten, outOfOrder}
+use Rattle.blocks.specs.Blocks.{blockIndex, pageIndex, blockBad, pageFull, higherWritten, outOfOrder, blankBlock}
 use Rattle.step.specs.Buffers.{registersAfter, arrayAfter, countsAfter, findings, statusOf, outputByte}
 use Rattle.step.specs.Step.{replyOf, worked, acceptedBy, accepted, byVerdict, steady, stepOf}
 use Rattle.jobs.specs.Cycles.{ColumnBytes, RowBytes}
@@ -39,7 +39,7 @@ use Rattle.thm_stations.proofs.Isolation.{isolation, deletion}
 
 -- every definition of the step is computed
 computes : Unit {0}
-unfolding splice part andBytes orElse badRecord rowOf firstOf secondRow secondOf classOf offered bitOf bitsOf fieldWidth columnFrom rowFrom lunOf pageOf blockOf lunExists blockExists rowExists pageSize inLimits sized unknown beforeReset fits misplaced outOfRange lunWorks noCopyback othersBusy lineLow pastEnd notOffered notWorking lineHeld rules verdict sequenceAfter outputAfter keptAfter lunsAfter selectedAfter clearAfter highAfter targetAfter targetRefused workOf recordSound usable blockIndex pageIndex registersAfter arrayAfter countsAfter blockBad pageFull higherWritten outOfOrder someSet findings statusOf outputByte replyOf worked acceptedBy accepted byVerdict steady stepOf those serial after log end
+unfolding splice part andBytes orElse badRecord rowOf firstOf secondRow secondOf classOf offered bitOf bitsOf fieldWidth columnFrom rowFrom lunOf pageOf blockOf lunExists blockExists rowExists pageSize inLimits sized unknown beforeReset fits misplaced outOfRange lunWorks noCopyback othersBusy lineLow pastEnd notOffered notWorking lineHeld rules verdict sequenceAfter outputAfter keptAfter lunsAfter selectedAfter clearAfter highAfter targetAfter targetRefused workOf recordSound usable blockIndex pageIndex registersAfter arrayAfter countsAfter blockBad pageFull higherWritten outOfOrder blankBlock someSet findings statusOf outputByte replyOf worked acceptedBy accepted byVerdict steady stepOf those serial after log end
 computes = tt
 
 -- a run gets to the start

@@ -3,22 +3,23 @@
 -- Assumes nothing.
 use mathlib.Core.Path.{_≡_, refl, ap, _∙_}
 use mathlib.Core.List.{List, [], _∷_}
-use mathlib.Core.Bool.{Bool, true, false}
+use mathlib.Core.Bool.{Bool, true, false, _&&_, not}
 use Prim.Native.Nat.{ℕ, _+_, _-_, _*_, _<_}
 use native.Mathlib.Nat.{le-refl}
 use native.Mathlib.Omega.{arith}
 use lib.ListN.{length, getD, set, length-replicate, length-set}
+use lib.Dec.{eqb}
 use Rattle.slices.specs.Cells.{splice, part, andBytes, someSet}
 use Rattle.slices.proofs.Anded.{length-and}
 use Rattle.slices.proofs.Splice.{piece}
 use Rattle.slices.proofs.Parts.{parts-alike, getD-alike, set-splice}
-use Rattle.target.specs.Address.{lunOf, pageOf, rowExists}
+use Rattle.target.specs.Address.{lunOf, pageOf, blockExists, rowExists}
 use Rattle.target.specs.Sizes.{pageSize}
 use Rattle.target.specs.declared.Geometry.{Geometry}
 use Rattle.target.specs.declared.Row.{Row}
 use Rattle.target.specs.declared.Work.{Work}
 use Rattle.target.specs.declared.Work.the-variants.{Nothing, ClearAll, ClearOne, Load, Put, Program, Erase}
-use Rattle.blocks.specs.Blocks.{pageIndex, higherWritten}
+use Rattle.blocks.specs.Blocks.{blockIndex, pageIndex, higherWritten, blankBlock}
 use Rattle.step.specs.Buffers.{registersAfter, arrayAfter, countsAfter}
 use Rattle.step.specs.Step.{Buffers, worked, Ready}
 use Rattle.blocks.proofs.Places.{page-below, page-bytes-end, page-parts, row-page, row-block}
@@ -70,6 +71,15 @@ module _ (g : Geometry) (b c : Buffers) (sizes : SizesOf g b) (sizesʳ : SizesOf
       (parts-alike (b .counts) (c .counts) (lunOf g r * lunPages g) (lunPages g) a (pageIndex g r + 1) (g .pages - (pageOf g r + 1))
       (omega (arith, page-low g r))
       (omega (arith, page-parts g r, row-page g r there, high)))
+
+  -- the counts of the whole block, and so whether it is blank
+  pub blank-alike : (flags : List ℕ) (r : Row) → blockExists g r ≡ true → CountsAgree g (lunOf g r) b c
+      → blankBlock g (blockIndex g r) (b .counts) flags ≡ blankBlock g (blockIndex g r) (c .counts) flags
+  unfolding blankBlock
+  blank-alike flags r there a =
+      ap (λ (x : List ℕ). eqb (getD flags (blockIndex g r) 0) 0 && not (someSet x))
+      (parts-alike (b .counts) (c .counts) (lunOf g r * lunPages g) (lunPages g) a (blockIndex g r * g .pages) (g .pages)
+      (block-low g r) (block-high g r there))
 
   -- a whole register is replaced
   replaced : (l : ℕ) (new newʳ : List ℕ) → new ≡ newʳ → length new ≡ pageSize g

@@ -9,7 +9,7 @@ use lib.Dec.{eqb}
 use Rattle.target.specs.Pick.{pick}
 use Rattle.target.specs.Commands.{secondRow, closesCopyback}
 use Rattle.target.specs.Events.{isReset}
-use Rattle.target.specs.Luns.{allReady}
+use Rattle.target.specs.Luns.{allReadied}
 use Rattle.target.specs.Views.{completed, ending}
 use Rattle.target.specs.declared.Event.{Event}
 use Rattle.target.specs.declared.Findings.{Findings}
@@ -26,7 +26,7 @@ use Rattle.target.specs.declared.views.Ender.the-variants as ender
 use Rattle.target.specs.declared.Verdict.{Verdict}
 use Rattle.target.specs.declared.Verdict.the-variants as verdicts
 use Rattle.rules.specs.Rules.{verdict}
-use Rattle.lun_records.specs.LunsAfter.{begun, endCloses, endedLuns, addressedLuns, finished, lunsAfter}
+use Rattle.lun_records.specs.LunsAfter.{endedLuns, addressedLuns, finished, lunsAfter}
 use Rattle.effects.specs.Effects.{targetAfter, targetRefused}
 use Rattle.power.specs.Power.{poweredOf}
 use Rattle.step.specs.Usable.{usable}
@@ -43,7 +43,7 @@ ended-count : (g : Geometry) (luns : List Lun) (x : Ender) (found : Findings)
     → length (endedLuns g luns x found) ≡ length luns
 ended-count g luns ender.Nothing found = refl
 ended-count g luns (ender.By k) found =
-    by-pick (λ (y : List Lun). length y ≡ length luns) (secondRow (k .second) .starts) (begun g luns (k .row) (not (found .proceeds)) (secondRow (k .second) .opens) (endCloses k)) luns (λ _. length-set luns _ _) (λ _. refl)
+    by-pick (λ (y : List Lun). length y ≡ length luns) (secondRow (k .second) .starts) _ luns (λ _. length-set luns _ _) (λ _. refl)
 
 addressed-count : (g : Geometry) (luns : List Lun) (x : Given) → length (addressedLuns g luns x) ≡ length luns
 addressed-count g luns given.Nothing = refl
@@ -59,7 +59,7 @@ luns-four g luns s e found h =
     let l2 = pick (eqb (e .kind) 4) (finished luns (e .value)) luns in
     let l1 = pick (eqb (e .kind) 1) (addressedLuns g luns (completed s (e .value))) l2 in
     let l0 = pick (eqb (e .kind) 0) (endedLuns g luns (ending s (e .value)) found) l1 in
-    by-pick (λ (x : List Lun). length x ≡ 4) (isReset e) allReady l0 (λ _. refl)
+    by-pick (λ (x : List Lun). length x ≡ 4) (isReset e) (allReadied luns) l0 (λ _. refl)
     (λ _. by-pick (λ (x : List Lun). length x ≡ 4) (eqb (e .kind) 0) (endedLuns g luns (ending s (e .value)) found) l1 (λ _. ended-count g luns (ending s (e .value)) found ∙ h)
     (λ _. by-pick (λ (x : List Lun). length x ≡ 4) (eqb (e .kind) 1) (addressedLuns g luns (completed s (e .value))) l2 (λ _. addressed-count g luns (completed s (e .value)) ∙ h)
     (λ _. by-pick (λ (x : List Lun). length x ≡ 4) (eqb (e .kind) 4) (finished luns (e .value)) luns (λ _. length-set luns _ _ ∙ h) (λ _. h))))
@@ -88,15 +88,15 @@ run-four page flags [] s h = h
 run-four page flags (e ∷ es) s h =
     run-four page flags es (left (stepAt page flags s e)) (step-four (s .target) e page (s .buffers) flags h)
 
-powered-four : (page : List ℕ) (device : ℕ) → length (poweredOf page device .luns) ≡ 4
+powered-four : (page : List ℕ) (device : ℕ) (counts flags : List ℕ) → length (poweredOf page device counts flags .luns) ≡ 4
 unfolding poweredOf
-powered-four page device = refl
+powered-four page device counts flags = refl
 
 pub from-power-on : FromPowerOn
 from-power-on page device array registers counts flags on before s at seen closed clear es m =
-    let begun-at = poweredUp page device array registers counts in
+    let begun-at = poweredUp page device array registers counts flags in
     let fine : Fine page flags (after page flags before begun-at) = record {
       passes = run-fit page device array registers counts flags on before begun-at (powered-fit page device array registers counts flags on);
-      four = run-four page flags before begun-at (powered-four page device);
+      four = run-four page flags before begun-at (powered-four page device counts flags);
     } in
     isolation page flags s es (record { fine = subst (λ (x : State). Fine page flags x) (sym at) fine; reset = seen; closed = closed; clear = clear }) m

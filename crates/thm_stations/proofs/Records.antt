@@ -7,7 +7,7 @@ use Prim.Native.Nat.{ℕ, _<_}
 use lib.ListN.{length, set, length-set}
 use lib.Seq.{getD-set-same, getD-set-other}
 use Rattle.target.specs.Pick.{pick}
-use Rattle.target.specs.Luns.{lunReady, lunAt}
+use Rattle.target.specs.Luns.{lunUnused, lunAt}
 use Rattle.target.specs.declared.Lun.{Lun}
 
 pub data Changed (l : ℕ) (xs ys : List Lun) : List Lun → List Lun → Type 0 where
@@ -28,12 +28,12 @@ pub changed-alike : {l : ℕ} {xs ys zs ws : List Lun} → l < length xs → l <
     → Changed l xs ys zs ws → lunAt zs l ≡ lunAt ws l
 changed-alike there thereʳ lun as-were = lun
 changed-alike {l} {xs} {ys} there thereʳ lun (become u) =
-    getD-set-same xs l u lunReady there ∙ sym (getD-set-same ys l u lunReady thereʳ)
+    getD-set-same xs l u lunUnused there ∙ sym (getD-set-same ys l u lunUnused thereʳ)
 
 pub changed-apart : {l : ℕ} {xs ys zs ws : List Lun} (m : ℕ) → (m ≡ l → ⊥) → Changed l xs ys zs ws
     → lunAt zs m ≡ lunAt xs m
 changed-apart m ne as-were = refl
-changed-apart {l} {xs} m ne (become u) = getD-set-other xs l m u lunReady ne
+changed-apart {l} {xs} m ne (become u) = getD-set-other xs l m u lunUnused ne
 
 pub changed-length : {l : ℕ} {xs ys zs ws : List Lun} → Changed l xs ys zs ws → length zs ≡ length xs
 changed-length as-were = refl

@@ -3,7 +3,7 @@ use mathlib.Core.Bool.{Bool, true, false}
 use mathlib.Core.List.{List, [], _∷_, map}
 use Prim.Native.Nat.{ℕ}
 use lib.ListN.{replicate}
-use Rattle.target.specs.Luns.{allReady}
+use Rattle.target.specs.Luns.{lunReady, lunUnused}
 use Rattle.target.specs.declared.Event.{Event}
 use Rattle.target.specs.declared.Geometry.{Geometry}
 use Rattle.target.specs.declared.Reply.{Reply}
@@ -25,8 +25,8 @@ params = replicate 256 0
 abbrev pub flags : List ℕ
 flags = replicate 16 0
 
--- ready, with an erased array: after the first FFh or before it, with program-clear on or off; the part has more than one
--- LUN, program-clear, EEh and EFh, 78h and 06h
+-- ready, with an erased array, so that every block is blank: after the first FFh or before it, with program-clear on or
+-- off; the part has more than one LUN, program-clear, EEh and EFh, 78h and 06h
 abbrev pub readyState : Bool → Bool → State
 readyState seen clear = record {
   target = record {
@@ -38,7 +38,7 @@ readyState seen clear = record {
     clear = clear;
     seen = seen;
     selected = 0;
-    luns = allReady;
+    luns = lunReady 8 ∷ lunReady 8 ∷ lunUnused ∷ lunUnused ∷ [];
     decoder = record { sequence = Idle; output = Nothing; kept = Nothing };
   };
   buffers = record { array = replicate 33792 0xff; registers = replicate 1056 0xff; counts = replicate 64 0 };

@@ -20,7 +20,8 @@ abbrev pub FromPowerOn : Type 0
 FromPowerOn =
     (page : List ℕ) (device : ℕ) (array registers counts flags : List ℕ)
     → powerAnswer page (length array) (length registers) counts flags ≡ Accepted
-    → (before : List Event) (s : State) → s ≡ after page flags before (poweredUp page device array registers counts)
+    → (before : List Event) (s : State)
+    → s ≡ after page flags before (poweredUp page device array registers counts flags)
     → s .target .seen ≡ true → s .target .decoder .sequence ≡ Idle → s .target .clear ≡ true
     → (es : List (Owned Event)) → Mixture (s .target .geometry) es → Isolated page flags s es
 
@@ -29,7 +30,9 @@ abbrev pub setUpT1 : List Event
 setUpT1 = map (λ (x : Owned Event). x .it) (setUp true)
 
 abbrev pub readyT1 : State
-readyT1 = after (t1 .params) (t1 .flags) setUpT1 (poweredUp (t1 .params) 0x68 (t1 .array) (t1 .registers) (t1 .counts))
+readyT1 =
+    after (t1 .params) (t1 .flags) setUpT1
+    (poweredUp (t1 .params) 0x68 (t1 .array) (t1 .registers) (t1 .counts) (t1 .flags))
 
 pub record PremisesMet : Type 0 where
   pub accepted : powerAnswer (t1 .params) (length (t1 .array)) (length (t1 .registers)) (t1 .counts) (t1 .flags) ≡ Accepted

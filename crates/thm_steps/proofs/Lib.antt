@@ -7,5 +7,6 @@ pub mod Program
 pub mod PageOrder
 pub mod Copyback
 pub mod Status
+pub mod Blank
 pub mod Identification
 pub mod Polling

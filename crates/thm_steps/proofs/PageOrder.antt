@@ -22,7 +22,7 @@ use Rattle.thm_steps.specs.Steps.{PageOrder}
 use Rattle.thm_steps.proofs.Program.{part-byte, program}
 
 -- a byte above 0, wherever it stands, is some byte; and where each is 0 there is none
-some-here : (xs : List ℕ) (i : ℕ) → 0 < getD xs i 0 → someSet xs ≡ true
+pub some-here : (xs : List ℕ) (i : ℕ) → 0 < getD xs i 0 → someSet xs ≡ true
 unfolding someSet
 some-here [] i h = absurd (omega (arith, h))
 some-here (x ∷ xs) zero h = rw (lt-ltb 0 x h)
@@ -32,7 +32,7 @@ some-here (x ∷ xs) (suc i) h = rw (some-here xs i h) (either (ltb 0 x))
     either true = refl
     either false = refl
 
-none-set : (xs : List ℕ) → ((i : ℕ) → i < length xs → getD xs i 0 ≡ 0) → someSet xs ≡ false
+pub none-set : (xs : List ℕ) → ((i : ℕ) → i < length xs → getD xs i 0 ≡ 0) → someSet xs ≡ false
 unfolding someSet
 none-set [] h = refl
 none-set (x ∷ xs) h =
@@ -40,7 +40,7 @@ none-set (x ∷ xs) h =
     rw (le-ltb 0 x first) (none-set xs (λ i k. h (suc i) (omega arith)))
 
 -- a part is no longer than what was asked for
-part-short : (xs : List ℕ) (at n : ℕ) → length (part xs at n) ≤ n
+pub part-short : (xs : List ℕ) (at n : ℕ) → length (part xs at n) ≤ n
 unfolding part
 part-short xs at n = omega (arith, length-take n (drop at xs), min-le-left n (length (drop at xs)))
 

@@ -1,9 +1,9 @@
 -- "Program" and "Erase", as specs/Steps.antt states them.
 -- Assumes nothing.
 use mathlib.Core.Path.{_≡_, refl, sym, ap, subst, _∙_}
-use mathlib.Core.Bool.{Bool, true, false, _||_, not}
+use mathlib.Core.Bool.{Bool, true, false, _&&_, _||_, not}
 use mathlib.Core.List.{List}
-use Prim.Native.Nat.{ℕ, _+_, _*_, _≤_, _<_}
+use Prim.Native.Nat.{ℕ, _+_, _-_, _*_, _≤_, _<_}
 use lib.ListN.{length, set, getD, drop}
 use lib.Seq.{getD-take, getD-drop}
 use lib.Bits.{bitAnd}
@@ -29,14 +29,14 @@ use Rattle.target.specs.declared.Verdict.the-variants as verdicts
 use Rattle.rules.specs.Rules.{verdict, beforeReset, unknown, misplaced, fits, othersBusy, lineLow}
 use Rattle.rules.proofs.ByKind.{command-verdict}
 use Rattle.effects.specs.Effects.{workOf, targetAfter, sequenceAfter}
-use Rattle.lun_records.specs.LunsAfter.{lunsAfter}
+use Rattle.lun_records.specs.LunsAfter.{oneMore, lunsAfter}
 use Rattle.step.specs.Usable.{sequenceSound}
 use Rattle.step.proofs.Sound.{sound, passes, filling-row}
 use Rattle.blocks.proofs.Places.{page-bytes-end, register-end}
 use Rattle.blocks.specs.Blocks.{pageIndex, blockBad, pageFull, outOfOrder}
 use Rattle.step.specs.Buffers.{findings, registersAfter, arrayAfter, countsAfter}
 use Rattle.step.specs.Step.{Buffers, Outcome, replyOf, worked, acceptedBy, accepted}
-use Rattle.thm_steps.specs.Steps.{command, address, dataIn, due, lastRow, filling, moving, working, stillOpen, Taken, Program, Erase}
+use Rattle.thm_steps.specs.Steps.{command, address, dataIn, due, lastRow, filling, moving, working, stillOpen, blanks, isBlank, Taken, Program, Erase}
 use Rattle.thm_steps.proofs.Places.{place-10, place-85, place-d0}
 use Rattle.thm_steps.proofs.Taken.{taken, command-fits, put, verdict-at, accepts, left-at, left-first, and-none}
 
@@ -76,9 +76,17 @@ module _ (t : Target) (params : List ℕ) (b : Buffers) (flags : List ℕ) where
   abbrev either : Work → Bool → Buffers
   either w x = worked (t .geometry) (pick x w work.Nothing) b
 
-  -- the LUNs where the row's begins to work
-  abbrev marked : Row → Bool → Bool → List Lun
-  marked r copyback x = set (t .luns) (lunOf (t .geometry) r) (working (not (not x)) copyback)
+  -- the LUNs where the row's begins to work: a 10h and a D0h that do not proceed where the test holds
+  abbrev marked : Row → Bool → ℕ → Bool → List Lun
+  marked r copyback blank x = set (t .luns) (lunOf (t .geometry) r) (working (not (not x)) copyback blank)
+
+  abbrev programmed : Row → Bool → Bool → List Lun
+  programmed r copyback x =
+      let n = blanks t params b flags r in marked r copyback (pick (not x && isBlank t params b flags r) (n - 1) n) x
+
+  abbrev erased : Row → Bool → Bool → List Lun
+  erased r copyback x =
+      let n = blanks t params b flags r in marked r copyback (pick (not x && not (isBlank t params b flags r)) (oneMore (t .geometry) n) n) x
 
   -- an event that is accepted finds a sound place
   sound-at : (e : Event) → Taken t params b flags e → sequenceSound (t .geometry) (t .decoder .sequence) ≡ true
@@ -134,11 +142,11 @@ module _ (t : Target) (params : List ℕ) (b : Buffers) (flags : List ℕ) where
         ∙ ap (λ (x : Bool). either (work.Program r) (not x)) (none-of (blockBad (t .geometry) r flags) (pageFull (t .geometry) r (b .counts)) (outOfOrder (t .geometry) (t .words) r (b .counts)) good room order);
     starts = λ f r c s h good room order.
         ap (λ (o : Outcome). o .target .luns) (left-at t (command 0x10) params b flags (filling f r c) s h)
-        ∙ ap (marked r (stillOpen t params b flags f r)) (none-of (blockBad (t .geometry) r flags) (pageFull (t .geometry) r (b .counts)) (outOfOrder (t .geometry) (t .words) r (b .counts)) good room order);
+        ∙ ap (programmed r (stillOpen t params b flags f r)) (none-of (blockBad (t .geometry) r flags) (pageFull (t .geometry) r (b .counts)) (outOfOrder (t .geometry) (t .words) r (b .counts)) good room order);
     stays = λ f r c s h bad.
         let p = left-at t (command 0x10) params b flags (filling f r c) s h in (
           ap (λ (o : Outcome). o .buffers) p ∙ ap (λ (x : Bool). either (work.Program r) (not x)) bad,
-          ap (λ (o : Outcome). o .target .luns) p ∙ ap (marked r (stillOpen t params b flags f r)) bad,
+          ap (λ (o : Outcome). o .target .luns) p ∙ ap (programmed r (stillOpen t params b flags f r)) bad,
         );
     no-data = λ f r c s live high.
         ap (λ (o : Outcome). o .reply)
@@ -152,11 +160,11 @@ module _ (t : Target) (params : List ℕ) (b : Buffers) (flags : List ℕ) where
     erases = λ c r s h good.
         let p = left-at t (command 0xd0) params b flags (due first.Erase c r) s h in (
           ap (λ (o : Outcome). o .buffers) p ∙ ap (λ (x : Bool). either (work.Erase r) (not x)) good,
-          ap (λ (o : Outcome). o .target .luns) p ∙ ap (marked r _) good ∙ ap (λ (x : Bool). marked r x false) (and-none (copybackAt (t .luns) (lunOf (t .geometry) r))),
+          ap (λ (o : Outcome). o .target .luns) p ∙ ap (erased r _) good ∙ ap (λ (x : Bool). erased r x false) (and-none (copybackAt (t .luns) (lunOf (t .geometry) r))),
         );
     stays = λ c r s h bad.
         let p = left-at t (command 0xd0) params b flags (due first.Erase c r) s h in (
           ap (λ (o : Outcome). o .buffers) p ∙ ap (λ (x : Bool). either (work.Erase r) (not x)) bad,
-          ap (λ (o : Outcome). o .target .luns) p ∙ ap (marked r _) bad ∙ ap (λ (x : Bool). marked r x true) (and-none (copybackAt (t .luns) (lunOf (t .geometry) r))),
+          ap (λ (o : Outcome). o .target .luns) p ∙ ap (erased r _) bad ∙ ap (λ (x : Bool). erased r x true) (and-none (copybackAt (t .luns) (lunOf (t .geometry) r))),
         );
   }

@@ -9,7 +9,7 @@ use borrow.Author.Tests.{lt-leb}
 use Rattle.target.specs.Pick.{orElse}
 use Rattle.target.specs.Address.{columnFrom, rowFrom, lunOf, lunExists}
 use Rattle.target.specs.Commands.{rowOf, secondOf, secondRow}
-use Rattle.target.specs.Luns.{works, copybackAt}
+use Rattle.target.specs.Luns.{works, copybackAt, blankAt}
 use Rattle.target.specs.Sizes.{pageSize}
 use Rattle.target.specs.declared.Column.{Column}
 use Rattle.target.specs.declared.Target.{Target}
@@ -56,7 +56,7 @@ module _ (t : Target) (params : List ℕ) (b : Buffers) (flags : List ℕ) where
     copies = λ c r s h. ap (λ (o : Outcome). o .buffers) (left-at t (command 0x30) params b flags (due first.Read c r) s h);
     starts = λ c r s h.
         ap (λ (o : Outcome). o .target .luns) (left-at t (command 0x30) params b flags (due first.Read c r) s h)
-        ∙ ap (λ (x : Bool). set (t .luns) (lunOf (t .geometry) r) (working false x)) (and-none (copybackAt (t .luns) (lunOf (t .geometry) r)));
+        ∙ ap (λ (x : Bool). set (t .luns) (lunOf (t .geometry) r) (working false x (blankAt (t .luns) (lunOf (t .geometry) r)))) (and-none (copybackAt (t .luns) (lunOf (t .geometry) r)));
     puts-out = λ c r s h. ap (λ (o : Outcome). o .target .decoder) (left-at t (command 0x30) params b flags (due first.Read c r) s h);
     byte = λ l c s h.
         let p = left-by t dataOut params b flags h in (

@@ -80,23 +80,24 @@ pub not-yes : (a : Bool) → (a ≡ true → ⊥) → a ≡ false
 not-yes true h = absurd (h refl)
 not-yes false h = refl
 
--- a row that closes a copyback leaves what else the records say
-closed-leaves : (says : Lun → Bool) → ((x : Lun) → says (lunClosed x) ≡ says x) → (luns : List Lun) (i l : ℕ)
-    → says (lunAt (set luns i (lunClosed (lunAt luns i))) l) ≡ says (lunAt luns l)
-closed-leaves says same [] i l = refl
-closed-leaves says same (x ∷ xs) zero zero = same x
-closed-leaves says same (x ∷ xs) zero (suc l) = refl
-closed-leaves says same (x ∷ xs) (suc i) zero = refl
-closed-leaves says same (x ∷ xs) (suc i) (suc l) = closed-leaves says same xs i l
+-- a record that says of this the same as the one it takes the place of
+pub stored-leaves : {A : Type 0} (says : Lun → A) (luns : List Lun) (i l : ℕ) (y : Lun) → says y ≡ says (lunAt luns i)
+    → says (lunAt (set luns i y) l) ≡ says (lunAt luns l)
+stored-leaves says [] i l y same = refl
+stored-leaves says (x ∷ xs) zero zero y same = same
+stored-leaves says (x ∷ xs) zero (suc l) y same = refl
+stored-leaves says (x ∷ xs) (suc i) zero y same = refl
+stored-leaves says (x ∷ xs) (suc i) (suc l) y same = stored-leaves says xs i l y same
 
+-- a row that closes a copyback leaves what else the records say
 module _ (g : Geometry) (luns : List Lun) where
-  row-leaves : (says : Lun → Bool) → ((x : Lun) → says (lunClosed x) ≡ says x) → (k : Given) (l : ℕ)
+  pub row-leaves : {A : Type 0} (says : Lun → A) → ((x : Lun) → says (lunClosed x) ≡ says x) → (k : Given) (l : ℕ)
       → says (lunAt (addressedLuns g luns k) l) ≡ says (lunAt luns l)
   row-leaves says same given.Nothing l = refl
   row-leaves says same (given.Column k) l = refl
   row-leaves says same (given.Row k) l =
       by-pick (λ (x : List Lun). says (lunAt x l) ≡ says (lunAt luns l)) (closesCopyback (k .first)) _ _
-      (λ _. closed-leaves says same luns (lunOf g (k .row)) l) (λ _. refl)
+      (λ _. stored-leaves says luns (lunOf g (k .row)) l _ (same _)) (λ _. refl)
   row-leaves says same (given.Single k) l = refl
 
   -- and where it is not the last cycle of 80h's row, all

@@ -3,7 +3,7 @@
 use mathlib.Core.Path.{_≡_}
 use mathlib.Core.Bool.{Bool, true, false, _&&_, _||_, not}
 use mathlib.Core.List.{List}
-use Prim.Native.Nat.{ℕ, _+_, _*_, _%_, _≤_, _<_}
+use Prim.Native.Nat.{ℕ, _+_, _-_, _*_, _%_, _≤_, _<_}
 use lib.ListN.{length, getD, set, replicate}
 use lib.Dec.{eqb, ltb}
 use lib.Bits.{bitAnd}
@@ -16,7 +16,7 @@ use Rattle.target.specs.Sizes.{pageSize}
 use Rattle.target.specs.Place.{isOpen, putOut, isPage, showsStatus, isRegisterOf, hasOutput}
 use Rattle.target.specs.Commands.{byteOf, cyclesOf, needsCopyback, secondOf, isSecondFound, classOf, isKnown, offered}
 use Rattle.target.specs.Address.{columnFrom, rowFrom, pageOf, lunOf, lunExists, rowExists}
-use Rattle.target.specs.Luns.{lunAt, lunClosed, works, failed, copybackAt, allReady}
+use Rattle.target.specs.Luns.{lunAt, lunClosed, works, failed, copybackAt, blankAt, allReadied}
 use Rattle.target.specs.declared.Column.{Column}
 use Rattle.target.specs.declared.Row.{Row}
 use Rattle.target.specs.declared.Lun.{Lun}
@@ -37,7 +37,7 @@ use Rattle.target.specs.declared.Reply.the-variants as reply
 use Rattle.rules.specs.Rules.{outputWorks, outputEnded}
 use Rattle.effects.specs.Effects.{advanced}
 use Rattle.memory.specs.Memory.{remembered}
-use Rattle.blocks.specs.Blocks.{blockIndex, pageIndex, blockBad, pageFull, outOfOrder}
+use Rattle.blocks.specs.Blocks.{blockIndex, pageIndex, blockBad, pageFull, outOfOrder, blankBlock}
 use Rattle.step.specs.Buffers.{outputByte}
 use Rattle.step.specs.Step.{Buffers, Outcome, stepOf}
 use Rattle.thm_kept.specs.Kept.{letsPass}
@@ -112,17 +112,21 @@ putting t o = record {
   decoder = decoding Idle o output.Nothing;
 }
 
--- a LUN's record: it works, it is ready; with this FAIL, and with a copyback open or not
-abbrev pub working : Bool → Bool → Lun
-working fail copyback = record { working = true; fail = fail; copyback = copyback }
+-- a LUN's record: it works, it is ready; with this FAIL, with a copyback open or not, and with so many blank blocks
+abbrev pub working : Bool → Bool → ℕ → Lun
+working fail copyback blank = record { working = true; fail = fail; copyback = copyback; blank = blank }
 
-abbrev pub waiting : Bool → Bool → Lun
-waiting fail copyback = record { working = false; fail = fail; copyback = copyback }
+abbrev pub waiting : Bool → Bool → ℕ → Lun
+waiting fail copyback blank = record { working = false; fail = fail; copyback = copyback; blank = blank }
 
 -- 30h, 35h, 10h and D0h
 abbrev pub beginsWork : Event → Bool
 beginsWork e =
     eqb (e .kind) 0 && (eqb (e .value) 0x30 || eqb (e .value) 0x35 || eqb (e .value) 0x10 || eqb (e .value) 0xd0)
+
+-- 10h and D0h, which alone move a number of blank blocks
+abbrev pub movesNumber : Event → Bool
+movesNumber e = eqb (e .kind) 0 && (eqb (e .value) 0x10 || eqb (e .value) 0xd0)
 
 -- Every paragraph is about a record, the parameter bytes and the lent buffers.
 module _ (t : Target) (params : List ℕ) (b : Buffers) (flags : List ℕ) where
@@ -177,6 +181,21 @@ module _ (t : Target) (params : List ℕ) (b : Buffers) (flags : List ℕ) where
   abbrev pub stillOpen : First → Row → Bool
   stillOpen f r = copybackAt (t .luns) (lun r) && not (needsCopyback f)
 
+  -- document 02, A7: the LUN's number of blank blocks, and whether the row's block is one of them
+  abbrev pub blanks : Row → ℕ
+  blanks r = blankAt (t .luns) (lun r)
+
+  abbrev pub isBlank : Row → Bool
+  isBlank r = blankBlock (t .geometry) (blockIndex (t .geometry) r) (b .counts) flags
+
+  -- the number after a 10h that proceeds: "down if the block was blank"; an untrue one stops at 0
+  abbrev pub fewer : Row → ℕ
+  fewer r = pick (isBlank r) (blanks r - 1) (blanks r)
+
+  -- and after a D0h that proceeds: "up if it was not"; an untrue one stops at the LUN's blocks
+  abbrev pub more : Row → ℕ
+  more r = pick (not (isBlank r)) (pick (ltb (blanks r) (t .geometry .blocks)) (blanks r + 1) (blanks r)) (blanks r)
+
   -- an event that changes no lent byte
   abbrev pub LeavesBuffers : Event → Type 0
   LeavesBuffers e = after e .buffers ≡ b
@@ -202,7 +221,7 @@ module _ (t : Target) (params : List ℕ) (b : Buffers) (flags : List ℕ) where
         → LeavesRegisters (command 0x30) (splice (b .registers) (registerAt (lun r)) size (part (b .array) (pageAt r) size))
     -- "and starts work"; "FAIL .. 0 for a read", on a bad block too
     pub starts : (c : Column) (r : Row) → At (due first.Read c r) → Taken (command 0x30)
-        → after (command 0x30) .target .luns ≡ set (t .luns) (lun r) (working false false)
+        → after (command 0x30) .target .luns ≡ set (t .luns) (lun r) (working false false (blanks r))
     -- "output will begin at the column"
     pub puts-out : (c : Column) (r : Row) → At (due first.Read c r) → Taken (command 0x30)
         → after (command 0x30) .target .decoder ≡ decoding Idle (output.Register (lun r) c) kept
@@ -287,13 +306,13 @@ module _ (t : Target) (params : List ℕ) (b : Buffers) (flags : List ℕ) where
     pub starts : (f : First) (r : Row) (c : Column) → At (filling f r c) → Taken (command 0x10)
         → blockBad (t .geometry) r flags ≡ false → pageFull (t .geometry) r (b .counts) ≡ false
         → outOfOrder (t .geometry) (t .words) r (b .counts) ≡ false
-        → after (command 0x10) .target .luns ≡ set (t .luns) (lun r) (working false (stillOpen f r))
+        → after (command 0x10) .target .luns ≡ set (t .luns) (lun r) (working false (stillOpen f r) (fewer r))
     -- "If the block's flag is not 0 or the count is at or above programs a page, array and count stay, FAIL is 1, and
     -- work still starts"; out of order too
     pub stays : (f : First) (r : Row) (c : Column) → At (filling f r c) → Taken (command 0x10)
         → (blockBad (t .geometry) r flags || pageFull (t .geometry) r (b .counts) || outOfOrder (t .geometry) (t .words) r (b .counts)) ≡ true
         → LeavesBuffers (command 0x10)
-        × (after (command 0x10) .target .luns ≡ set (t .luns) (lun r) (working true (stillOpen f r)))
+        × (after (command 0x10) .target .luns ≡ set (t .luns) (lun r) (working true (stillOpen f r) (blanks r)))
     -- "No data at all before 10h is allowed": wherever data may come 10h is accepted, with the line high
     pub no-data : (f : First) (r : Row) (c : Column) → At (filling f r c) → Live → t .high ≡ true
         → after (command 0x10) .reply ≡ reply.Accepted
@@ -307,7 +326,7 @@ module _ (t : Target) (params : List ℕ) (b : Buffers) (flags : List ℕ) where
         → (p : ℕ) → pageOf (t .geometry) r < p → p < t .geometry .pages
         → 0 < getD (b .counts) (blockIndex (t .geometry) r * t .geometry .pages + p) 0
         → LeavesBuffers (command 0x10)
-        × (after (command 0x10) .target .luns ≡ set (t .luns) (lun r) (working true (stillOpen f r)))
+        × (after (command 0x10) .target .luns ≡ set (t .luns) (lun r) (working true (stillOpen f r) (blanks r)))
     -- no other page's count stands in its way: "the same page again is allowed up to its count"
     pub in-order : (r : Row)
         → ((p : ℕ) → pageOf (t .geometry) r < p → p < t .geometry .pages
@@ -330,12 +349,12 @@ module _ (t : Target) (params : List ℕ) (b : Buffers) (flags : List ℕ) where
           counts = splice (b .counts) (blockIndex (t .geometry) r * t .geometry .pages) (t .geometry .pages)
               (replicate (t .geometry .pages) 0);
         })
-        × (after (command 0xd0) .target .luns ≡ set (t .luns) (lun r) (working false false))
+        × (after (command 0xd0) .target .luns ≡ set (t .luns) (lun r) (working false false (more r)))
     -- "A factory bad block stays and gives FAIL"
     pub stays : (c : Column) (r : Row) → At (due first.Erase c r) → Taken (command 0xd0)
         → blockBad (t .geometry) r flags ≡ true
         → LeavesBuffers (command 0xd0)
-        × (after (command 0xd0) .target .luns ≡ set (t .luns) (lun r) (working true false))
+        × (after (command 0xd0) .target .luns ≡ set (t .luns) (lun r) (working true false (blanks r)))
 
   -- **Copyback** (document 02, A1).
   pub record Copyback : Type 0 where
@@ -349,7 +368,7 @@ module _ (t : Target) (params : List ℕ) (b : Buffers) (flags : List ℕ) where
         → after (command 0x35) .target .decoder ≡ decoding Idle (output.Register (lun r) c) kept
     -- "and opens a copyback on that LUN"
     pub opens : (c : Column) (r : Row) → At (due first.Read c r) → Taken (command 0x35)
-        → after (command 0x35) .target .luns ≡ set (t .luns) (lun r) (working false true)
+        → after (command 0x35) .target .luns ≡ set (t .luns) (lun r) (working false true (blanks r))
     -- "85h as a first command (no sequence open)", which clears nothing, whatever program-clear
     pub begins : At Idle → Taken (command 0x85)
         → (after (command 0x85) .target .decoder
@@ -393,12 +412,32 @@ module _ (t : Target) (params : List ℕ) (b : Buffers) (flags : List ℕ) where
     pub refused : (e : Event) (q : Refusal) → after e .reply ≡ reply.Refused q
         → LeavesBuffers e × (after e .target .luns ≡ t .luns)
 
+  -- **Blank blocks** (document 02, A7). Program and Erase say that a 10h that proceeds leaves its LUN `fewer` and a D0h
+  -- `more`, that one that does not proceed leaves the number, and that no other LUN's moves.
+  pub record Blank : Type 0 where
+    -- "all counts 0 and .. not bad"
+    pub blank : (r : Row) → blockBad (t .geometry) r flags ≡ false
+        → ((p : ℕ) → p < t .geometry .pages
+        → getD (b .counts) (blockIndex (t .geometry) r * t .geometry .pages + p) 0 ≡ 0)
+        → isBlank r ≡ true
+    pub written : (r : Row) (p : ℕ) → p < t .geometry .pages
+        → 0 < getD (b .counts) (blockIndex (t .geometry) r * t .geometry .pages + p) 0
+        → isBlank r ≡ false
+    pub bad : (r : Row) → blockBad (t .geometry) r flags ≡ true → isBlank r ≡ false
+    -- "The number moves at 10h .. D0h, not at the finish", nor by any other event; "FFh keeps it"
+    pub else-stays : (e : Event) → Taken e → movesNumber e ≡ false
+        → (l : ℕ) → l < 4 → blankAt (after e .target .luns) l ≡ blankAt (t .luns) l
+    -- nor by one that is refused
+    pub refused : (e : Event) (q : Refusal) → after e .reply ≡ reply.Refused q
+        → (l : ℕ) → blankAt (after e .target .luns) l ≡ blankAt (t .luns) l
+
   -- **Work.** Read, Program, Erase and Copyback say that 30h, 10h, D0h and 35h begin it, and which FAIL each sets
   -- afresh.
   pub record Work : Type 0 where
     -- "A LUN works .. to its finish event", which leaves FAIL as it is
     pub finishes : (l : ℕ) → Taken (finish l)
-        → after (finish l) .target .luns ≡ set (t .luns) l (waiting (failed (t .luns) l) (copybackAt (t .luns) l))
+        → after (finish l) .target .luns
+        ≡ set (t .luns) l (waiting (failed (t .luns) l) (copybackAt (t .luns) l) (blankAt (t .luns) l))
     -- and no other event but FFh begins or ends it, or sets FAIL
     pub else-as-it-is : (e : Event) → Taken e → beginsWork e ≡ false → eqb (e .kind) 4 ≡ false → isReset e ≡ false
         → (l : ℕ) → (works (after e .target .luns) l ≡ works (t .luns) l)
@@ -593,7 +632,8 @@ module _ (t : Target) (params : List ℕ) (b : Buffers) (flags : List ℕ) where
         × (after (command 0xe0) .target .luns ≡ t .luns) × LeavesBuffers (command 0xe0)
 
   -- **Reset.** "FFh: sequence and output dropped, registers FFh, program-clear off, every LUN ready, FAIL 0, array
-  -- and counts as they are": accepted wherever rule 13 lets pass, and nothing else changes
+  -- and counts as they are", and so the numbers of blank blocks: accepted wherever rule 13 lets pass, and nothing else
+  -- changes
   abbrev pub Reset : Type 0
   Reset =
       letsPass t params b flags ≡ true
@@ -608,7 +648,7 @@ module _ (t : Target) (params : List ℕ) (b : Buffers) (flags : List ℕ) where
           clear = false;
           seen = true;
           selected = 0;
-          luns = allReady;
+          luns = allReadied (t .luns);
           decoder = decoding Idle output.Nothing output.Nothing;
         };
         buffers = record { array = b .array; registers = replicate (length (b .registers)) 0xff; counts = b .counts };

@@ -9,7 +9,7 @@ use lib.Dec.{eqb, ltb, leb, lit<}
 use Rattle.target.specs.Pick.{pick}
 use Rattle.target.specs.Address.{rowExists}
 use Rattle.target.specs.Commands.{takesColumn, takesRow, waitsSecond, takesProgramData}
-use Rattle.target.specs.Luns.{works, failed, copybackAt}
+use Rattle.target.specs.Luns.{isUnused, lunAt, works, failed, copybackAt, blankAt}
 use Rattle.target.specs.Place.{showsStatus}
 use Rattle.target.specs.Sizes.{pageSize, inLimits}
 use Rattle.target.specs.declared.Column.{Column}
@@ -28,7 +28,7 @@ use Rattle.target.specs.declared.Refusal.the-variants.{NotUsable}
 use Rattle.target.specs.declared.Reply.the-variants.{Refused}
 use Rattle.target.specs.declared.Verdict.{Verdict}
 use Rattle.target.specs.declared.Verdict.the-variants as verdicts
-use Rattle.target.proofs.Both.{both, both3}
+use Rattle.target.proofs.Both.{both, both3, both4}
 use Rattle.power.specs.Power.{poweredOf}
 use Rattle.rules.specs.Rules.{verdict}
 use Rattle.effects.specs.Effects.{targetAfter, targetRefused}
@@ -68,17 +68,17 @@ run-geometry page flags (e ∷ es) s = run-geometry page flags es (left (stepAt 
 
 module _ {g : Geometry} {P : Target → Type 0} (w : Reached g P) where
   abbrev run : State
-  run = after (w .page) (w .flags) (w .events) (poweredUp (w .page) (w .device) (w .array) (w .registers) (w .counts))
+  run = after (w .page) (w .flags) (w .events) (poweredUp (w .page) (w .device) (w .array) (w .registers) (w .counts) (w .flags))
 
   run-sound : Sound (run .target)
   run-sound =
       let on = powered-fit (w .page) (w .device) (w .array) (w .registers) (w .counts) (w .flags) (w .on) in
-      let fit = run-fit (w .page) (w .device) (w .array) (w .registers) (w .counts) (w .flags) (w .on) (w .events) (poweredUp (w .page) (w .device) (w .array) (w .registers) (w .counts)) on in
+      let fit = run-fit (w .page) (w .device) (w .array) (w .registers) (w .counts) (w .flags) (w .on) (w .events) (poweredUp (w .page) (w .device) (w .array) (w .registers) (w .counts) (w .flags)) on in
       sound (run .target) (passes (run .target) (w .page) (run .buffers .array) (run .buffers .registers) (run .buffers .counts) (w .flags) fit .record-sound)
 
   run-sized : run .target .geometry ≡ g
   unfolding poweredOf
-  run-sized = run-geometry (w .page) (w .flags) (w .events) (poweredUp (w .page) (w .device) (w .array) (w .registers) (w .counts)) ∙ w .sizes
+  run-sized = run-geometry (w .page) (w .flags) (w .events) (poweredUp (w .page) (w .device) (w .array) (w .registers) (w .counts) (w .flags)) ∙ w .sizes
 
   run-mark : (l : ℕ) → l < 4 → markSound g (run .target .luns) l ≡ true
   run-mark l h = subst (λ (x : Geometry). markSound x (run .target .luns) l ≡ true) run-sized (one-mark (run .target .geometry) (run .target .luns) (run-sound .marks) l h)
@@ -102,14 +102,22 @@ mixed : {A B : Type 0} (p : A → Bool) (q : B → Bool) {a : A} {b : B} (x : A)
 mixed p q {a} {b} x y z u e d h k =
     and-true (p a) (q b) (subst (λ i. p i ≡ true) e (both (p x) (q y) h .0)) (subst (λ i. q i ≡ true) d (both (p z) (q u) k .1))
 
--- each of three marks of a LUN past the count is off, by a run of its own
-mark-mix : (there a b c p q r s t u : Bool) → (there || not a && not p && not q) ≡ true → (there || not r && not b && not s) ≡ true
-    → (there || not t && not u && not c) ≡ true → (there || not a && not b && not c) ≡ true
-mark-mix true a b c p q r s t u h k l = refl
-mark-mix false a b c p q r s t u h k l =
-    and-true (not a && not b) (not c)
-    (and-true (not a) (not b) (both3 (not a) (not p) (not q) h .0) (both3 (not r) (not b) (not s) k .1))
-    (both3 (not t) (not u) (not c) l .2)
+-- each mark of a LUN past the count is off, and its number 0, by a run of its own; the number of one that exists is within its blocks
+mark-mix : (there a b c : Bool) (most : ℕ) (x p q r s : Lun) → p .working ≡ x .working → q .fail ≡ x .fail → r .copyback ≡ x .copyback
+    → s .blank ≡ x .blank → pick there a (isUnused p) ≡ true → pick there b (isUnused q) ≡ true → pick there c (isUnused r) ≡ true
+    → pick there (leb (s .blank) most) (isUnused s) ≡ true → pick there (leb (x .blank) most) (isUnused x) ≡ true
+mark-mix true a b c most x p q r s ep eq er es hp hq hr hs = subst (λ (n : ℕ). leb n most ≡ true) es hs
+mark-mix false a b c most x p q r s ep eq er es hp hq hr hs =
+    and-true (not (x .working) && not (x .fail) && not (x .copyback)) (eqb (x .blank) 0)
+    (and-true (not (x .working) && not (x .fail)) (not (x .copyback))
+    (and-true (not (x .working)) (not (x .fail))
+    (subst (λ (m : Bool). not m ≡ true) ep (unused p hp .0)) (subst (λ (m : Bool). not m ≡ true) eq (unused q hq .1)))
+    (subst (λ (m : Bool). not m ≡ true) er (unused r hr .2)))
+    (subst (λ (n : ℕ). eqb n 0 ≡ true) es (unused s hs .3))
+  where
+    unused : (y : Lun) → isUnused y ≡ true
+        → (not (y .working) ≡ true) × (not (y .fail) ≡ true) × (not (y .copyback) ≡ true) × (eqb (y .blank) 0 ≡ true)
+    unused y h = both4 (not (y .working)) (not (y .fail)) (not (y .copyback)) (eqb (y .blank) 0) h
 
 sequence-sound : (g : Geometry) (s : Sequence) → SequenceGiven g s → sequenceSound g s ≡ true
 sequence-sound g Idle w = refl
@@ -189,18 +197,13 @@ kept-sound g o w =
     (each-sound g (Keeps g) (λ x run. both (outputSound g x) (not (showsStatus x)) (kept-held run) .0) o w)
     (no-status g o w)
 
-mark-sound : (g : Geometry) (luns : List Lun) (l : ℕ) → l < 4 → Reached g (λ u. works (u .luns) l ≡ works luns l) → Reached g (λ u. failed (u .luns) l ≡ failed luns l)
-    → Reached g (λ u. copybackAt (u .luns) l ≡ copybackAt luns l) → markSound g luns l ≡ true
-mark-sound g luns l h w f c =
-    let there = ltb l (g .luns) in
-    let ws = run w .target .luns in
-    let fs = run f .target .luns in
-    let cs = run c .target .luns in
-    mark-mix there (works luns l) (failed luns l) (copybackAt luns l)
-    (failed ws l) (copybackAt ws l) (works fs l) (copybackAt fs l) (works cs l) (failed cs l)
-    (subst (λ (x : Bool). (there || not x && not (failed ws l) && not (copybackAt ws l)) ≡ true) (w .holds) (run-mark w l h))
-    (subst (λ (x : Bool). (there || not (works fs l) && not x && not (copybackAt fs l)) ≡ true) (f .holds) (run-mark f l h))
-    (subst (λ (x : Bool). (there || not (works cs l) && not (failed cs l) && not x) ≡ true) (c .holds) (run-mark c l h))
+mark-sound : (g : Geometry) (luns : List Lun) (l : ℕ) → l < 4 → Reached g (λ u. works (u .luns) l ≡ works luns l)
+    → Reached g (λ u. failed (u .luns) l ≡ failed luns l) → Reached g (λ u. copybackAt (u .luns) l ≡ copybackAt luns l)
+    → Reached g (λ u. blankAt (u .luns) l ≡ blankAt luns l) → markSound g luns l ≡ true
+mark-sound g luns l h w f c n =
+    mark-mix (ltb l (g .luns)) _ _ _ (g .blocks) (lunAt luns l) (lunAt (run w .target .luns) l) (lunAt (run f .target .luns) l)
+    (lunAt (run c .target .luns) l) (lunAt (run n .target .luns) l) (w .holds) (f .holds) (c .holds) (n .holds)
+    (run-mark w l h) (run-mark f l h) (run-mark c l h) (run-mark n l h)
 
 -- the optional word may be any
 words-sound : (g : Geometry) (w : Words) → Reached g (λ u. u .words .features ≡ w .features) → wordsSound g w ≡ true
@@ -211,7 +214,7 @@ words-sound g w given =
 pub by-itself : ByItself
 by-itself t on w =
     let g = t .geometry in
-    let mark : (l : ℕ) → l < 4 → markSound g (t .luns) l ≡ true = λ l h. mark-sound g (t .luns) l h (w .working l h) (w .fail l h) (w .copyback l h) in
+    let mark : (l : ℕ) → l < 4 → markSound g (t .luns) l ≡ true = λ l h. mark-sound g (t .luns) l h (w .working l h) (w .fail l h) (w .copyback l h) (w .blank l h) in
     all-sound t on
     (subst (λ (x : Geometry). inLimits x ≡ true) (run-sized (w .geometry)) (run-sound (w .geometry) .limited))
     (words-sound g (t .words) (w .features))

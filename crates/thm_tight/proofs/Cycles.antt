@@ -12,7 +12,7 @@ use Rattle.target.specs.Address.{lunOf}
 use Rattle.target.specs.Words.{bitOf}
 use Rattle.target.specs.Commands.{classOf, offered, rowOf, byteOf, needsReady, waitsFor, givesStatus, firstOf, secondOf, secondRow}
 use Rattle.target.specs.Views.{completed, taking}
-use Rattle.target.specs.Luns.{lunReady, allReady, lunAt, works}
+use Rattle.target.specs.Luns.{lunReady, lunAt, works, blankAt}
 use Rattle.target.specs.Events.{badRecord}
 use Rattle.target.specs.Place.{isOpen, isBare, firstHere, takesAddress, takesData, hasOutput}
 use Rattle.target.specs.declared.Geometry.{Geometry}
@@ -44,16 +44,16 @@ use Rattle.lun_records.specs.LunsAfter.{addressedLuns, lunsAfter}
 use Rattle.step.specs.Buffers.{findings}
 use Rattle.thm_tight.proofs.Commands.{every, fresh}
 use Rattle.thm_tight.proofs.Part.{Part, Fine, flagsOf}
-use Rattle.thm_tight.proofs.Ways.{Way, at-power, onward}
+use Rattle.thm_tight.proofs.Ways.{Way, foundIn, at-power, onward}
 
 -- a part with every option
 abbrev pub full : Geometry → ℕ → Part
-full g flag = record {
+full g bad = record {
   geometry = g;
   words = every;
   maker = 0;
   device = 0;
-  flag = flag;
+  bad = bad;
 }
 
 -- after FFh, with these LUN records, a LUN selected, a sequence, an output and one that is kept
@@ -79,9 +79,13 @@ standing g luns selected s o = keeping g luns selected s o output.Nothing
 abbrev pub resting : Output → Decoder
 resting o = record { sequence = Idle; output = o; kept = output.Nothing }
 
--- with every LUN as FFh leaves it
-abbrev pub stand : Geometry → ℕ → Sequence → Output → Target
-stand g selected s o = standing g allReady selected s o
+-- the LUN records that power-on makes, which FFh leaves as they are
+abbrev pub readyLuns : Geometry → ℕ → List Lun
+readyLuns g bad = foundIn (full g bad)
+
+-- with every LUN so
+abbrev pub stand : Geometry → ℕ → ℕ → Sequence → Output → Target
+stand g bad selected s o = standing g (readyLuns g bad) selected s o
 
 pub and-no : (b : Bool) → (b && false) ≡ false
 and-no true = refl
@@ -89,15 +93,15 @@ and-no false = refl
 
 -- No LUN works.
 
-pub ready-at : (l : ℕ) → lunAt allReady l ≡ lunReady
-ready-at zero = refl
-ready-at (suc zero) = refl
-ready-at (suc (suc zero)) = refl
-ready-at (suc (suc (suc zero))) = refl
-ready-at (suc (suc (suc (suc l)))) = refl
+pub ready-at : (g : Geometry) (bad l : ℕ) → lunAt (readyLuns g bad) l ≡ lunReady (blankAt (readyLuns g bad) l)
+ready-at g bad zero = refl
+ready-at g bad (suc zero) = refl
+ready-at g bad (suc (suc zero)) = refl
+ready-at g bad (suc (suc (suc zero))) = refl
+ready-at g bad (suc (suc (suc (suc l)))) = refl
 
-pub works-not : (l : ℕ) → works allReady l ≡ false
-works-not l = ap (λ (x : Lun). x .working) (ready-at l)
+pub works-not : (g : Geometry) (bad l : ℕ) → works (readyLuns g bad) l ≡ false
+works-not g bad l = ap (λ (x : Lun). x .working) (ready-at g bad l)
 
 -- no LUN works
 abbrev pub Calm : List Lun → Type 0
@@ -251,29 +255,29 @@ module _ (g : Geometry) (luns : List Lun) (calm : Calm luns) (selected : ℕ) (s
   unfolding targetAfter highAfter clearAfter selectedAfter lunsAfter sequenceAfter outputAfter keptAfter
   in-leaves v found h = rw (h)
 
-module _ (g : Geometry) (flag : ℕ) (fine : Fine (full g flag)) where
+module _ (g : Geometry) (bad : ℕ) (fine : Fine (full g bad)) where
   -- after FFh
-  pub still : Way (full g flag) (stand g 0 Idle output.Nothing)
+  pub still : Way (full g bad) (stand g bad 0 Idle output.Nothing)
   unfolding targetAfter highAfter clearAfter selectedAfter lunsAfter sequenceAfter outputAfter keptAfter
-  still = onward fine (at-power (full g flag)) (event 0 0xff) (omega arith) (omega arith) (reset-accepted _) _ (λ _. refl)
+  still = onward fine (at-power (full g bad)) (event 0 0xff) (omega arith) (omega arith) (reset-accepted _) _ (λ _. refl)
 
-  pub second : (luns : List Lun) (selected : ℕ) (s : Sequence) (o : Output) (v : ℕ) → Second s v → (y : Target) → ((counts : List ℕ) → targetAfter (standing g luns selected s o) (event 0 v) (findings g (standing g luns selected s o .words) s (event 0 v) counts (flagsOf (full g flag))) ≡ y)
-      → Way (full g flag) (standing g luns selected s o) → Way (full g flag) y
+  pub second : (luns : List Lun) (selected : ℕ) (s : Sequence) (o : Output) (v : ℕ) → Second s v → (y : Target) → ((counts : List ℕ) → targetAfter (standing g luns selected s o) (event 0 v) (findings g (standing g luns selected s o .words) s (event 0 v) counts (flagsOf (full g bad))) ≡ y)
+      → Way (full g bad) (standing g luns selected s o) → Way (full g bad) y
   second luns selected s o v which y leaves w = onward fine w (event 0 v) (omega arith) (second-small which) (second-accepted g luns selected o which) y leaves
 
   -- the other cycles, while no LUN works
   module _ (luns : List Lun) (calm : Calm luns) where
-    pub command : (selected : ℕ) (o : Output) → Way (full g flag) (standing g luns selected Idle o) → (f : First) → Way (full g flag) (opened-to luns calm g selected o f)
+    pub command : (selected : ℕ) (o : Output) → Way (full g bad) (standing g luns selected Idle o) → (f : First) → Way (full g bad) (opened-to luns calm g selected o f)
     command selected o w f = onward fine w (event 0 (byteOf f)) (omega arith) (leb-true _ _ (fresh f .4)) (opens luns calm g selected o f) _ (λ _. opened-by luns calm g selected o f _)
 
     pub address : (selected : ℕ) (s : Sequence) (o : Output) (v : ℕ) → v ≤ 255 → takesAddress s ≡ true → beyond g (completed s v) ≡ false → Unasked g luns (completed s v)
-        → Way (full g flag) (standing g luns selected s o) → Way (full g flag) (standing g luns (rowSelects g selected (completed s v)) (addressed s v) (addressedOutput g (completed s v) o))
+        → Way (full g bad) (standing g luns selected s o) → Way (full g bad) (standing g luns (rowSelects g selected (completed s v)) (addressed s v) (addressedOutput g (completed s v) o))
     address selected s o v small h near free w = onward fine w (event 1 v) (omega arith) small (address-accepted g luns calm selected s o v h near free) _ (λ _. address-leaves g luns calm selected s o v _ free)
 
     pub out : (selected : ℕ) (o : Output) → hasOutput o ≡ true → outputWorks luns o ≡ false → outputEnded g o ≡ false
-        → Way (full g flag) (standing g luns selected Idle o) → Way (full g flag) (standing g luns selected Idle (advanced o))
+        → Way (full g bad) (standing g luns selected Idle o) → Way (full g bad) (standing g luns selected Idle (advanced o))
     out selected o h idle more w = onward fine w (event 3 0) (omega arith) (omega arith) (out-accepted g luns calm selected Idle o h idle more) _ (λ _. out-leaves g luns calm selected Idle o _)
 
     pub data-in : (selected : ℕ) (s : Sequence) (o : Output) (v : ℕ) → v ≤ 255 → takesData s ≡ true → unoffered every (taking s) v ≡ false → dataEnded g (taking s) ≡ false → clearSet false (taking s) ≡ false
-        → Way (full g flag) (standing g luns selected s o) → Way (full g flag) (standing g luns selected (filled s (taking s) v) o)
+        → Way (full g bad) (standing g luns selected s o) → Way (full g bad) (standing g luns selected (filled s (taking s) v) o)
     data-in selected s o v small h offer more same w = onward fine w (event 2 v) (omega arith) small (in-accepted g luns calm selected s o v h offer more) _ (λ _. in-leaves g luns calm selected s o v _ same)

@@ -6,6 +6,7 @@ pub mod Ways
 pub mod Cycles
 pub mod Sequences
 pub mod Outputs
+pub mod Blank
 pub mod Marks
 pub mod Tight
 pub mod ByItself

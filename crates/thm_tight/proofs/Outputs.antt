@@ -10,7 +10,6 @@ use borrow.Author.Tests.{ltb-true, leb-true, lt-ltb, lt-leb, not-true}
 use Rattle.target.specs.Address.{lunOf, lunExists}
 use Rattle.target.specs.Sizes.{pageSize}
 use Rattle.target.specs.Commands.{needsCopyback, inPage, rowOf, cyclesOf, thenOf, takesColumn, takesRow, knowsAddress, firstOf, secondOf, secondRow}
-use Rattle.target.specs.Luns.{allReady}
 use Rattle.target.specs.Place.{hasOutput, showsStatus}
 use Rattle.target.specs.declared.Column.{Column}
 use Rattle.target.specs.declared.Row.{Row}
@@ -34,7 +33,7 @@ use Rattle.step.specs.Usable.{columnHeld, outputSound, keptSound}
 use Rattle.thm_tight.specs.Tight.{Shows, Keeps, EachGiven, OutputGiven, KeptGiven}
 use Rattle.thm_tight.proofs.Part.{Fine}
 use Rattle.thm_tight.proofs.Ways.{Way, to-end, reached}
-use Rattle.thm_tight.proofs.Cycles.{showing, second, full, keeping, stand, opened-to, works-not, still, command, out}
+use Rattle.thm_tight.proofs.Cycles.{showing, second, full, keeping, readyLuns, stand, opened-to, works-not, still, command, out}
 use Rattle.thm_tight.proofs.Addresses.{rowAt, lun-at, lun-there}
 use Rattle.thm_tight.proofs.Sequences.{ready-free, paged, begin, row-whole, answered}
 
@@ -42,9 +41,9 @@ use Rattle.thm_tight.proofs.Sequences.{ready-free, paged, begin, row-wh
 abbrev asked : Column → Row → Wait
 asked c r = record { first = ChangeColumnEnhanced; column = c; row = r }
 
-showed : (g : Geometry) (selected : ℕ) (c : Column) (r : Row) (found : Findings) → targetAfter (stand g selected (Due (asked c r)) output.Nothing) (event 0 0xe0) found ≡ stand g selected Idle (output.Register (lunOf g r) c)
+showed : (g : Geometry) (bad selected : ℕ) (c : Column) (r : Row) (found : Findings) → targetAfter (stand g bad selected (Due (asked c r)) output.Nothing) (event 0 0xe0) found ≡ stand g bad selected Idle (output.Register (lunOf g r) c)
 unfolding targetAfter highAfter clearAfter selectedAfter lunsAfter sequenceAfter outputAfter keptAfter rowOf secondOf secondRow
-showed g selected c r found = refl
+showed g bad selected c r found = refl
 
 -- the attributes of the commands that are named here
 asked-is : (takesRow ChangeColumnEnhanced ≡ true) × (takesColumn ChangeColumnEnhanced ≡ true) × (thenOf ChangeColumnEnhanced ≡ then.Second) × (needsCopyback ChangeColumnEnhanced ≡ false) × (inPage ChangeColumnEnhanced ≡ false)
@@ -78,66 +77,66 @@ each-given Leaving (output.Signature at) w = w
 each-given Leaving (output.Feature at) w = w
 
 -- 70h with no sequence open: the output that it ends is kept, unless it is a status itself
-kept-behind : (g : Geometry) (selected : ℕ) (o : Output) → showsStatus o ≡ false → opened-to allReady works-not g selected o Status ≡ keeping g allReady selected Idle (output.Status selected) o
+kept-behind : (g : Geometry) (bad selected : ℕ) (o : Output) → showsStatus o ≡ false → opened-to (readyLuns g bad) (works-not g bad) g selected o Status ≡ keeping g (readyLuns g bad) selected Idle (output.Status selected) o
 unfolding rowOf firstOf
-kept-behind g selected o none = rw (none)
+kept-behind g bad selected o none = rw (none)
 
-module _ (g : Geometry) (flag : ℕ) (fine : Fine (full g flag)) where
+module _ (g : Geometry) (bad : ℕ) (fine : Fine (full g bad)) where
   m : Limits g
   m = limits g (fine .limited)
 
   -- An output that goes one place up with each byte, to its end.
-  module _ (places : ℕ → Output) (end : ℕ) (has : (n : ℕ) → hasOutput (places n) ≡ true) (free : (n : ℕ) → outputWorks allReady (places n) ≡ false) (ends : (n : ℕ) → outputEnded g (places n) ≡ leb end n) (next : (n : ℕ) → advanced (places n) ≡ places (n + 1)) where
-    outs : (selected : ℕ) → Way (full g flag) (stand g selected Idle (places 0)) → (n : ℕ) → n ≤ end → Way (full g flag) (stand g selected Idle (places n))
+  module _ (places : ℕ → Output) (end : ℕ) (has : (n : ℕ) → hasOutput (places n) ≡ true) (free : (n : ℕ) → outputWorks (readyLuns g bad) (places n) ≡ false) (ends : (n : ℕ) → outputEnded g (places n) ≡ leb end n) (next : (n : ℕ) → advanced (places n) ≡ places (n + 1)) where
+    outs : (selected : ℕ) → Way (full g bad) (stand g bad selected Idle (places 0)) → (n : ℕ) → n ≤ end → Way (full g bad) (stand g bad selected Idle (places n))
     outs selected w zero h = w
     outs selected w (suc n) h =
-        subst (λ (o : Output). Way (full g flag) (stand g selected Idle o)) (next n ∙ ap places (add-one n))
-        (out g flag fine allReady works-not selected (places n) (has n) (free n) (ends n ∙ lt-leb end n h) (outs selected w n (omega arith)))
+        subst (λ (o : Output). Way (full g bad) (stand g bad selected Idle o)) (next n ∙ ap places (add-one n))
+        (out g bad fine (readyLuns g bad) (works-not g bad) selected (places n) (has n) (free n) (ends n ∙ lt-leb end n h) (outs selected w n (omega arith)))
 
   -- A register.
 
-  register-below : (l : ℕ) → l < g .luns → (c : Column) → c .0 < pageSize g → Way (full g flag) (stand g l Idle (output.Register l c))
+  register-below : (l : ℕ) → l < g .luns → (c : Column) → c .0 < pageSize g → Way (full g bad) (stand g bad l Idle (output.Register l c))
   register-below l h c below =
       let r = rowAt g l in
       let held : columnHeld g ChangeColumnEnhanced c ≡ true = rw (asked-is .1, asked-is .4) (lt-ltb (c .0) (pageSize g) below) in
-      let due = row-whole g flag fine ChangeColumnEnhanced (begin g flag fine ChangeColumnEnhanced) (asked-is .0) c held r (lun-fits g r (lun-there g m l h) .0) (ready-free g ChangeColumnEnhanced r (asked-is .3)) then.Second (asked-is .2) in
-      subst (λ (n : ℕ). Way (full g flag) (stand g n Idle (output.Register n c))) (lun-at g l)
-      (second g flag fine allReady (lunOf g r) (Due (asked c r)) output.Nothing 0xe0 (showing refl) _ (λ _. showed g (lunOf g r) c r _) due)
+      let due = row-whole g bad fine ChangeColumnEnhanced (begin g bad fine ChangeColumnEnhanced) (asked-is .0) c held r (lun-fits g r (lun-there g m l h) .0) (ready-free g bad ChangeColumnEnhanced r (asked-is .3)) then.Second (asked-is .2) in
+      subst (λ (n : ℕ). Way (full g bad) (stand g bad n Idle (output.Register n c))) (lun-at g l)
+      (second g bad fine (readyLuns g bad) (lunOf g r) (Due (asked c r)) output.Nothing 0xe0 (showing refl) _ (λ _. showed g bad (lunOf g r) c r _) due)
 
   -- past its last byte by data out there
-  register : (l : ℕ) → l < g .luns → (c : Column) → c .0 ≤ pageSize g → Way (full g flag) (stand g l Idle (output.Register l c))
+  register : (l : ℕ) → l < g .luns → (c : Column) → c .0 ≤ pageSize g → Way (full g bad) (stand g bad l Idle (output.Register l c))
   register l h c most =
       let least = m .page-min in
-      to-end (λ (x : Column). stand g l Idle (output.Register l x)) (pageSize g) (omega arith) (register-below l h)
-      (λ x below w. out g flag fine allReady works-not l (output.Register l x) refl (works-not l) (lt-leb (pageSize g) (x .0) below) w)
+      to-end (λ (x : Column). stand g bad l Idle (output.Register l x)) (pageSize g) (omega arith) (register-below l h)
+      (λ x below w. out g bad fine (readyLuns g bad) (works-not g bad) l (output.Register l x) refl (works-not g bad l) (lt-leb (pageSize g) (x .0) below) w)
       c most
 
   -- 78h: the status of the LUN, which it selects
-  pub status : (l : ℕ) → l < g .luns → Way (full g flag) (stand g l Idle (output.Status l))
+  pub status : (l : ℕ) → l < g .luns → Way (full g bad) (stand g bad l Idle (output.Status l))
   status l h =
-      subst (λ (n : ℕ). Way (full g flag) (stand g n Idle (output.Status n))) (lun-at g l)
-      (row-whole g flag fine StatusEnhanced (begin g flag fine StatusEnhanced) (status-is .0) (record { 0 = 0 }) (rw (status-is .1)) (rowAt g l) (lun-fits g (rowAt g l) (lun-there g m l h) .1) (ready-free g StatusEnhanced (rowAt g l) (status-is .3)) then.Status (status-is .2))
+      subst (λ (n : ℕ). Way (full g bad) (stand g bad n Idle (output.Status n))) (lun-at g l)
+      (row-whole g bad fine StatusEnhanced (begin g bad fine StatusEnhanced) (status-is .0) (record { 0 = 0 }) (rw (status-is .1)) (rowAt g l) (lun-fits g (rowAt g l) (lun-there g m l h) .1) (ready-free g bad StatusEnhanced (rowAt g l) (status-is .3)) then.Status (status-is .2))
 
   -- Every output that passes stands open after some cycles.
 
   abbrev Open : Output → Type 0
-  Open o = (selected : ℕ) × Way (full g flag) (stand g selected Idle o)
+  Open o = (selected : ℕ) × Way (full g bad) (stand g bad selected Idle o)
 
   -- the first byte of an answer to a lone address
-  ids : (v : ℕ) → v ≤ 255 → knowsAddress ReadId v ≡ true → Way (full g flag) (stand g 0 Idle (shown then.Id 0 v output.Nothing))
-  ids v small h = answered g flag fine ReadId (begin g flag fine ReadId) (ids-is .0) then.Id (ids-is .1) v small h
+  ids : (v : ℕ) → v ≤ 255 → knowsAddress ReadId v ≡ true → Way (full g bad) (stand g bad 0 Idle (shown then.Id 0 v output.Nothing))
+  ids v small h = answered g bad fine ReadId (begin g bad fine ReadId) (ids-is .0) then.Id (ids-is .1) v small h
 
-  feature : Way (full g flag) (stand g 0 Idle (output.Feature 0))
+  feature : Way (full g bad) (stand g bad 0 Idle (output.Feature 0))
   feature =
-      answered g flag fine GetFeatures (begin g flag fine GetFeatures) (feature-is .0) then.FeatureOut (feature-is .1) 0x01 (omega arith) (feature-is .2)
+      answered g bad fine GetFeatures (begin g bad fine GetFeatures) (feature-is .0) then.FeatureOut (feature-is .1) 0x01 (omega arith) (feature-is .2)
 
   shows : (o : Output) → outputSound g o ≡ true → Open o
-  shows output.Nothing h = (0, still g flag fine)
+  shows output.Nothing h = (0, still g bad fine)
   shows (output.Register l c) h =
       let p = both (ltb l (g .luns)) (leb (c .0) (pageSize g)) h in
       (l, register l (ltb-true _ _ (p .0)) c (leb-true _ _ (p .1)))
   shows (output.Parameters at) h =
-      (0, outs output.Parameters 768 (λ _. refl) (λ _. refl) (λ _. refl) (λ _. refl) 0 (paged g flag fine) at (leb-true _ _ h))
+      (0, outs output.Parameters 768 (λ _. refl) (λ _. refl) (λ _. refl) (λ _. refl) 0 (paged g bad fine) at (leb-true _ _ h))
   shows (output.Status l) h = (l, status l (ltb-true _ _ h))
   shows (output.Ids at) h =
       (0, outs output.Ids 2 (λ _. refl) (λ _. refl) (λ _. refl) (λ _. refl) 0 (ids 0x00 (omega arith) (ids-is .2)) at (leb-true _ _ h))
@@ -154,7 +153,7 @@ module _ (g : Geometry) (flag : ℕ) (fine : Fine (full g flag)) where
   keeps : (o : Output) → showsStatus o ≡ false → Open o → Keeps g o
   keeps o none w =
       reached (λ (t : Target). t .decoder .kept ≡ o) fine
-      (subst (Way (full g flag)) (kept-behind g (w .0) o none) (command g flag fine allReady works-not (w .0) o (w .1) Status))
+      (subst (Way (full g bad)) (kept-behind g bad (w .0) o none) (command g bad fine (readyLuns g bad) (works-not g bad) (w .0) o (w .1) Status))
       refl
 
   pub kept-given : (o : Output) → keptSound g o ≡ true → KeptGiven g o

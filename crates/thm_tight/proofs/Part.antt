@@ -3,9 +3,10 @@
 use mathlib.Core.Path.{_≡_, refl, sym, ap, _∙_}
 use mathlib.Core.Bool.{Bool, true, _&&_, _||_, not}
 use mathlib.Core.List.{List, [], _∷_, _++_}
-use Prim.Native.Nat.{ℕ, zero, suc, _+_, _*_, _/_, _%_, _≤_, _<_}
+use Prim.Native.Nat.{ℕ, zero, suc, _+_, _*_, _-_, _/_, _%_, _≤_, _<_}
 use native.Mathlib.Omega.{arith}
-use lib.ListN.{length, getD, replicate, length-replicate, getD-replicate}
+use lib.ListN.{length, getD, replicate, length-append, length-replicate, List·getD-append, getD-replicate}
+use lib.Seq.{getD-append-add}
 use lib.Dec.{leb}
 use borrow.Author.Tests.{le-leb, eq-eqb}
 use Rattle.slices.specs.Cells.{allAtMost}
@@ -26,13 +27,13 @@ use Rattle.target.proofs.Both.{both}
 use Rattle.thm_kept.proofs.Choice.{and-true}
 use Rattle.thm_tight.proofs.Crc.{crc-small}
 
--- what a part is made of; `flag` is that of every block
+-- what a part is made of; the first `bad` blocks, counted over all LUNs, are factory bad
 pub record Part : Type 0 where
   pub geometry : Geometry
   pub words : Words
   pub maker : ℕ
   pub device : ℕ
-  pub flag : ℕ
+  pub bad : ℕ
 
 pub record Fine (k : Part) : Type 0 where
   pub limited : inLimits (k .geometry) ≡ true
@@ -41,7 +42,7 @@ pub record Fine (k : Part) : Type 0 where
   pub optional-word : k .words .optional ≤ 65535
   pub maker-byte : k .maker ≤ 255
   pub device-byte : k .device ≤ 255
-  pub flag-bit : k .flag ≤ 1
+  pub bad-there : k .bad ≤ k .geometry .luns * k .geometry .blocks
 
 -- bytes 80 on
 abbrev sizesThen : Geometry → List ℕ → List ℕ
@@ -60,7 +61,7 @@ bytesThen k rest =
 crcIn : Part → ℕ
 crcIn k = crcOf (bytesThen k [])
 
--- what is lent at power-on: the page, FFh all over, counts of 0, flags alike
+-- what is lent at power-on: the page, FFh all over, counts of 0, the flags
 pub pageOf : Part → List ℕ
 pageOf k = bytesThen k (crcIn k % 256 ∷ crcIn k / 256 ∷ [])
 
@@ -73,11 +74,11 @@ arrayOf k = replicate (blocksIn k * k .geometry .pages * pageSize (k .geometry))
 pub registersOf : Part → List ℕ
 registersOf k = replicate (k .geometry .luns * pageSize (k .geometry)) 0xff
 
-pub countsOf : Part → List ℕ
+unfoldable pub countsOf : Part → List ℕ
 countsOf k = replicate (blocksIn k * k .geometry .pages) 0
 
 pub flagsOf : Part → List ℕ
-flagsOf k = replicate (blocksIn k) (k .flag)
+flagsOf k = replicate (k .bad) 1 ++ replicate (blocksIn k - k .bad) 0
 
 -- The fields.
 
@@ -172,6 +173,18 @@ unfolding allAtMost
 all-most most zero v h = refl
 all-most most (suc n) v h = rw (le-leb v most h) (all-most most n v h)
 
+both-most : (most : ℕ) (xs ys : List ℕ) → allAtMost most xs ≡ true → allAtMost most ys ≡ true → allAtMost most (xs ++ ys) ≡ true
+unfolding allAtMost
+both-most most [] ys h k = k
+both-most most (x ∷ xs) ys h k =
+    let p = both (leb x most) (allAtMost most xs) h in
+    and-true (leb x most) (allAtMost most (xs ++ ys)) (p .0) (both-most most xs ys (p .1) k)
+
+getD-zeros : (n i : ℕ) → _≡_ {A = ℕ} (getD (replicate n 0) i 0) 0
+getD-zeros zero i = refl
+getD-zeros (suc n) zero = refl
+getD-zeros (suc n) (suc i) = getD-zeros n i
+
 module _ (k : Part) (f : Fine k) where
   fields-fine : fieldsInLimits (pageOf k) ≡ true
   unfolding fieldsInLimits dataInLimits spareInLimits pagesInLimits blocksInLimits lunsInLimits lunsAsFeatured narrowBus cyclesAsHouse programsInLimits
@@ -207,18 +220,29 @@ module _ (k : Part) where
   unfolding countsOf
   counts-length = length-replicate _ 0
 
-  flags-length : length (flagsOf k) ≡ blocksIn k
+  flags-length : k .bad ≤ blocksIn k → length (flagsOf k) ≡ blocksIn k
   unfolding flagsOf
-  flags-length = length-replicate _ (k .flag)
+  flags-length h = simp (length-append, length-replicate) (omega arith)
 
-  sizes-fine : sized (k .geometry) (length (arrayOf k)) (length (registersOf k)) (length (countsOf k)) (length (flagsOf k)) ≡ true
+  sizes-fine : k .bad ≤ blocksIn k → sized (k .geometry) (length (arrayOf k)) (length (registersOf k)) (length (countsOf k)) (length (flagsOf k)) ≡ true
   unfolding sized
-  sizes-fine = all4 _ _ _ _ (eq-eqb _ _ array-length) (eq-eqb _ _ registers-length) (eq-eqb _ _ counts-length) (eq-eqb _ _ flags-length)
+  sizes-fine h =
+      all4 _ _ _ _ (eq-eqb _ _ array-length) (eq-eqb _ _ registers-length) (eq-eqb _ _ counts-length) (eq-eqb _ _ (flags-length h))
 
-  -- the flag of a block that exists
-  pub flag-at : (i : ℕ) → i < blocksIn k → getD (flagsOf k) i 0 ≡ k .flag
+  -- the flag of a block
+  pub flag-bad : (i : ℕ) → i < k .bad → getD (flagsOf k) i 0 ≡ 1
   unfolding flagsOf
-  flag-at i h = getD-replicate (blocksIn k) i (k .flag) 0 h
+  flag-bad i h =
+      List·getD-append (replicate (k .bad) 1) (replicate (blocksIn k - k .bad) 0) 0 i (omega (arith, length-replicate {A = ℕ} (k .bad) 1))
+      ∙ getD-replicate (k .bad) i 1 0 h
+
+  pub flag-good : (i : ℕ) → k .bad ≤ i → getD (flagsOf k) i 0 ≡ 0
+  unfolding flagsOf
+  flag-good i h =
+      let front : List ℕ = replicate (k .bad) 1 in
+      let rest : List ℕ = replicate (blocksIn k - k .bad) 0 in
+      let at : length front + (i - k .bad) ≡ i = omega (arith, length-replicate {A = ℕ} (k .bad) 1) in
+      ap (λ (n : ℕ). getD (front ++ rest) n 0) (sym at) ∙ getD-append-add front rest (i - k .bad) 0 ∙ getD-zeros (blocksIn k - k .bad) (i - k .bad)
 
 module _ (k : Part) (f : Fine k) where
   counts-fine : allAtMost (programsAPage (pageOf k)) (countsOf k) ≡ true
@@ -227,7 +251,7 @@ module _ (k : Part) (f : Fine k) where
 
   flags-fine : allAtMost 1 (flagsOf k) ≡ true
   unfolding flagsOf
-  flags-fine = all-most 1 (blocksIn k) (k .flag) (f .flag-bit)
+  flags-fine = both-most 1 (replicate (k .bad) 1) _ (all-most 1 (k .bad) 1 (omega arith)) (all-most 1 (blocksIn k - k .bad) 0 (omega arith))
 
   -- power-on accepts it
   pub powers-on : powerAnswer (pageOf k) (length (arrayOf k)) (length (registersOf k)) (countsOf k) (flagsOf k) ≡ Accepted
@@ -237,7 +261,7 @@ module _ (k : Part) (f : Fine k) where
       (later _ _ _ (rw (signed-is k))
       (later _ _ _ (rw (crc-is k))
       (later _ _ _ (rw (fields-fine k f))
-      (later _ _ _ (rw (geometry-is k, sizes-fine k))
+      (later _ _ _ (rw (geometry-is k, sizes-fine k (f .bad-there)))
       (later _ _ _ (rw (counts-fine, flags-fine)) refl))))))
 
 -- All that is lent is bytes.

@@ -13,7 +13,7 @@ use Rattle.target.specs.Address.{lunOf, rowExists}
 use Rattle.target.specs.Sizes.{pageSize, columnEnd}
 use Rattle.target.specs.Words.{bitOf, hasFeature}
 use Rattle.target.specs.Commands.{rowOf, byteOf, firstOf, secondOf, secondRow, cyclesOf, thenOf, takesColumn, takesRow, waitsSecond, looksOf, takesProgramData, closesCopyback, needsCopyback, givesStatus, inPage, knowsAddress}
-use Rattle.target.specs.Luns.{lunAt, lunBegun, lunFinished, lunClosed, allReady, works, copybackAt}
+use Rattle.target.specs.Luns.{lunAt, lunBegun, lunFinished, lunClosed, works, blankAt, copybackAt}
 use Rattle.target.specs.Views.{completed}
 use Rattle.target.specs.Place.{isPage, showsStatus, firstHere}
 use Rattle.target.specs.declared.Column.{Column}
@@ -61,7 +61,7 @@ use Rattle.thm_tight.specs.Tight.{Stands, SequenceGiven, bytesHeld}
 use Rattle.thm_tight.proofs.Part.{Fine}
 use Rattle.thm_tight.proofs.Ways.{Way, onward, to-end, reached}
 use Rattle.thm_tight.proofs.Commands.{every, addresses, no-output, waits-some, waits-plain, waits-then, data-shape, data-then, data-silent, needs-only, page-only}
-use Rattle.thm_tight.proofs.Cycles.{Calm, Unasked, copying, moving, second, full, keeping, standing, stand, resting, and-no, works-not, still, command, address, data-in}
+use Rattle.thm_tight.proofs.Cycles.{Calm, Unasked, copying, moving, second, full, keeping, standing, readyLuns, stand, resting, and-no, works-not, still, command, address, data-in}
 use Rattle.thm_tight.proofs.Addresses.{column-bytes, row-bytes, row-small}
 
 -- The sequences on the way, each written out once.
@@ -157,12 +157,18 @@ page-fits g f r h there = by (looksOf f) h
     by looks.Page k = there
 
 -- 35h: the LUN works, and its copyback is open
-copying-left : (g : Geometry) (l : ℕ) (r : Row) (counts flags : List ℕ)
-    → targetAfter (stand g l (Due (record { first = Read; column = record { 0 = 0 }; row = r })) output.Nothing) (event 0 0x35)
-    (findings g (stand g l Idle output.Nothing .words) (Due (record { first = Read; column = record { 0 = 0 }; row = r })) (event 0 0x35) counts flags)
-    ≡ standing g (set allReady (lunOf g r) (lunBegun (lunAt allReady (lunOf g r)) false true false)) l Idle (output.Register (lunOf g r) (record { 0 = 0 }))
+abbrev copyingAt : Geometry → ℕ → ℕ → List Lun
+copyingAt g bad l = set (readyLuns g bad) l (lunBegun (lunAt (readyLuns g bad) l) false true false (blankAt (readyLuns g bad) l))
+
+abbrev copiedAt : Geometry → ℕ → ℕ → List Lun
+copiedAt g bad l = set (copyingAt g bad l) l (lunFinished (lunAt (copyingAt g bad l) l))
+
+copying-left : (g : Geometry) (bad l : ℕ) (r : Row) (counts flags : List ℕ)
+    → targetAfter (stand g bad l (Due (record { first = Read; column = record { 0 = 0 }; row = r })) output.Nothing) (event 0 0x35)
+    (findings g (stand g bad l Idle output.Nothing .words) (Due (record { first = Read; column = record { 0 = 0 }; row = r })) (event 0 0x35) counts flags)
+    ≡ standing g (copyingAt g bad (lunOf g r)) l Idle (output.Register (lunOf g r) (record { 0 = 0 }))
 unfolding targetAfter highAfter clearAfter selectedAfter lunsAfter sequenceAfter outputAfter keptAfter findings rowOf secondOf secondRow
-copying-left g l r counts flags = refl
+copying-left g bad l r counts flags = refl
 
 -- its finish event
 finish-accepted : (g : Geometry) (l : ℕ) (luns : List Lun) (o : Output) → l < g .luns → works luns l ≡ true → rules.verdict (standing g luns l Idle o) (event 4 l) ≡ Accepted
@@ -175,25 +181,19 @@ unfolding targetAfter highAfter clearAfter selectedAfter lunsAfter sequenceAfter
 finish-left g l luns o found = refl
 
 -- each of the four LUNs
-abbrev copyingAt : ℕ → List Lun
-copyingAt l = set allReady l (lunBegun (lunAt allReady l) false true false)
+copying-works : (g : Geometry) (bad l : ℕ) → l < 4 → works (copyingAt g bad l) l ≡ true
+copying-works g bad zero h = refl
+copying-works g bad (suc zero) h = refl
+copying-works g bad (suc (suc zero)) h = refl
+copying-works g bad (suc (suc (suc zero))) h = refl
+copying-works g bad (suc (suc (suc (suc l)))) h = absurd (omega arith)
 
-abbrev copiedAt : ℕ → List Lun
-copiedAt l = set (copyingAt l) l (lunFinished (lunAt (copyingAt l) l))
-
-copying-works : (l : ℕ) → l < 4 → works (copyingAt l) l ≡ true
-copying-works zero h = refl
-copying-works (suc zero) h = refl
-copying-works (suc (suc zero)) h = refl
-copying-works (suc (suc (suc zero))) h = refl
-copying-works (suc (suc (suc (suc l)))) h = absurd (omega arith)
-
-copied-mark : (l : ℕ) → l < 4 → copybackAt (copiedAt l) l ≡ true
-copied-mark zero h = refl
-copied-mark (suc zero) h = refl
-copied-mark (suc (suc zero)) h = refl
-copied-mark (suc (suc (suc zero))) h = refl
-copied-mark (suc (suc (suc (suc l)))) h = absurd (omega arith)
+copied-mark : (g : Geometry) (bad l : ℕ) → l < 4 → copybackAt (copiedAt g bad l) l ≡ true
+copied-mark g bad zero h = refl
+copied-mark g bad (suc zero) h = refl
+copied-mark g bad (suc (suc zero)) h = refl
+copied-mark g bad (suc (suc (suc zero))) h = refl
+copied-mark g bad (suc (suc (suc (suc l)))) h = absurd (omega arith)
 
 four-calm : (a b c d : Lun) → a .working ≡ false → b .working ≡ false → c .working ≡ false → d .working ≡ false → Calm (a ∷ b ∷ c ∷ d ∷ [])
 four-calm a b c d p q r s zero = p
@@ -202,12 +202,12 @@ four-calm a b c d p q r s (suc (suc zero)) = r
 four-calm a b c d p q r s (suc (suc (suc zero))) = s
 four-calm a b c d p q r s (suc (suc (suc (suc l)))) = refl
 
-pub copied-calm : (l : ℕ) → l < 4 → Calm (copiedAt l)
-copied-calm zero h = four-calm _ _ _ _ refl refl refl refl
-copied-calm (suc zero) h = four-calm _ _ _ _ refl refl refl refl
-copied-calm (suc (suc zero)) h = four-calm _ _ _ _ refl refl refl refl
-copied-calm (suc (suc (suc zero))) h = four-calm _ _ _ _ refl refl refl refl
-copied-calm (suc (suc (suc (suc l)))) h = absurd (omega arith)
+pub copied-calm : (g : Geometry) (bad l : ℕ) → l < 4 → Calm (copiedAt g bad l)
+copied-calm g bad zero h = four-calm _ _ _ _ refl refl refl refl
+copied-calm g bad (suc zero) h = four-calm _ _ _ _ refl refl refl refl
+copied-calm g bad (suc (suc zero)) h = four-calm _ _ _ _ refl refl refl refl
+copied-calm g bad (suc (suc (suc zero))) h = four-calm _ _ _ _ refl refl refl refl
+copied-calm g bad (suc (suc (suc (suc l)))) h = absurd (omega arith)
 
 -- Where the cycles of a first command start.
 
@@ -260,12 +260,12 @@ before-lost f true h = subst (λ (x : First). firstKept (resting (output.Paramet
 before-lost f false h = plain-lost output.Nothing f (λ _. refl) h
 
 -- after FFh, no sequence open, no LUN working, and the command's byte is that command there; it ends the output, and keeps none
-pub record Base (g : Geometry) (flag : ℕ) (f : First) : Type 0 where
+pub record Base (g : Geometry) (bad : ℕ) (f : First) : Type 0 where
   pub luns : List Lun
   pub calm : Calm luns
   pub selected : ℕ
   pub shows : Output
-  pub way : Way (full g flag) (standing g luns selected Idle shows)
+  pub way : Way (full g bad) (standing g luns selected Idle shows)
   pub here : firstHere (resting shows) (byteOf f) ≡ first.Found f
   pub silent : addresses f ≡ true → firstOutput selected (firstOf (byteOf f)) ≡ output.Nothing
   pub lost : firstKept (resting shows) (firstOf (byteOf f)) ≡ output.Nothing
@@ -275,49 +275,49 @@ abbrev rowed : First → Row → Given
 rowed f r = given.Row (record { first = f; row = r })
 
 -- with every LUN as FFh leaves it no row closes a copyback
-closed-ready : (l : ℕ) → set allReady l (lunClosed (lunAt allReady l)) ≡ allReady
-closed-ready zero = refl
-closed-ready (suc zero) = refl
-closed-ready (suc (suc zero)) = refl
-closed-ready (suc (suc (suc zero))) = refl
-closed-ready (suc (suc (suc (suc l)))) = refl
+closed-ready : (g : Geometry) (bad l : ℕ) → set (readyLuns g bad) l (lunClosed (lunAt (readyLuns g bad) l)) ≡ readyLuns g bad
+closed-ready g bad zero = refl
+closed-ready g bad (suc zero) = refl
+closed-ready g bad (suc (suc zero)) = refl
+closed-ready g bad (suc (suc (suc zero))) = refl
+closed-ready g bad (suc (suc (suc (suc l)))) = refl
 
-pub ready-free : (g : Geometry) (f : First) (r : Row) → needsCopyback f ≡ false → Unasked g allReady (rowed f r)
-ready-free g f r h = record {
+pub ready-free : (g : Geometry) (bad : ℕ) (f : First) (r : Row) → needsCopyback f ≡ false → Unasked g (readyLuns g bad) (rowed f r)
+ready-free g bad f r h = record {
   lacks = rw (h);
-  closes = by-pick (λ (x : List Lun). x ≡ allReady) (closesCopyback f) _ _ (λ _. closed-ready (lunOf g r)) (λ _. refl);
+  closes = by-pick (λ (x : List Lun). x ≡ readyLuns g bad) (closesCopyback f) _ _ (λ _. closed-ready g bad (lunOf g r)) (λ _. refl);
 }
 
-module _ (g : Geometry) (flag : ℕ) (fine : Fine (full g flag)) where
+module _ (g : Geometry) (bad : ℕ) (fine : Fine (full g bad)) where
   pub m : Limits g
   m = limits g (fine .limited)
 
-  abbrev first-base : (f : First) → inPage f ≡ false → Base g flag f
+  abbrev first-base : (f : First) → inPage f ≡ false → Base g bad f
   first-base f h = record {
-    luns = allReady;
-    calm = works-not;
+    luns = readyLuns g bad;
+    calm = works-not g bad;
     selected = 0;
     shows = output.Nothing;
-    way = still g flag fine;
+    way = still g bad fine;
     here = plain-here output.Nothing f refl h;
     silent = plain-silent 0 f h;
     lost = plain-lost output.Nothing f (λ _. refl) h;
   }
 
-module _ (g : Geometry) (flag : ℕ) (fine : Fine (full g flag)) (f : First) (base : Base g flag f) where
+module _ (g : Geometry) (bad : ℕ) (fine : Fine (full g bad)) (f : First) (base : Base g bad f) where
   -- a way to a sequence with no output
   abbrev To : ℕ → Sequence → Type 0
-  To selected s = Way (full g flag) (standing g (base .luns) selected s output.Nothing)
+  To selected s = Way (full g bad) (standing g (base .luns) selected s output.Nothing)
 
   abbrev from : ℕ
   from = base .selected
 
   arrive : (s : Sequence) → started f ≡ s → addresses f ≡ true → To from s
   arrive s e h =
-      subst (λ (o : Output). Way (full g flag) (keeping g (base .luns) from s o output.Nothing)) (base .silent h)
-      (subst (λ (o : Output). Way (full g flag) (keeping g (base .luns) from s (firstOutput from (firstOf (byteOf f))) o)) (base .lost)
-      (subst (λ (x : Sequence). Way (full g flag) (keeping g (base .luns) from x (firstOutput from (firstOf (byteOf f))) (firstKept (resting (base .shows)) (firstOf (byteOf f))))) (ap opened (base .here) ∙ e)
-      (command g flag fine (base .luns) (base .calm) from (base .shows) (base .way) f)))
+      subst (λ (o : Output). Way (full g bad) (keeping g (base .luns) from s o output.Nothing)) (base .silent h)
+      (subst (λ (o : Output). Way (full g bad) (keeping g (base .luns) from s (firstOutput from (firstOf (byteOf f))) o)) (base .lost)
+      (subst (λ (x : Sequence). Way (full g bad) (keeping g (base .luns) from x (firstOutput from (firstOf (byteOf f))) (firstKept (resting (base .shows)) (firstOf (byteOf f))))) (ap opened (base .here) ∙ e)
+      (command g bad fine (base .luns) (base .calm) from (base .shows) (base .way) f)))
 
   abbrev unasked : {k : Given} → lacksCopyback g (base .luns) k ≡ false → addressedLuns g (base .luns) k ≡ base .luns → Unasked g (base .luns) k
   unasked p q = record { lacks = p; closes = q }
@@ -328,18 +328,18 @@ module _ (g : Geometry) (flag : ℕ) (fine : Fine (full g flag)) (f : First) (ba
   column-none h = arrive (Columns (columns f 0 0)) (rw (h)) (first-of (takesColumn f) (takesRow f) (eqb (cyclesOf f) 1) h)
 
   column-low : takesColumn f ≡ true → (v : ℕ) → v ≤ 255 → To from (Columns (columns f 1 v))
-  column-low h v small = address g flag fine (base .luns) (base .calm) from (Columns (columns f 0 0)) output.Nothing v small refl refl (unasked refl refl) (column-none h)
+  column-low h v small = address g bad fine (base .luns) (base .calm) from (Columns (columns f 0 0)) output.Nothing v small refl refl (unasked refl refl) (column-none h)
 
   -- its end is one that two bytes reach
   end-small : columnEnd g (inPage f) ≤ 65536
-  end-small = let most = m g flag fine .page-max in by-pick (λ (n : ℕ). n ≤ 65536) (inPage f) 768 (pageSize g) (λ _. omega arith) (λ _. omega arith)
+  end-small = let most = m g bad fine .page-max in by-pick (λ (n : ℕ). n ≤ 65536) (inPage f) 768 (pageSize g) (λ _. omega arith) (λ _. omega arith)
 
   column-whole : takesColumn f ≡ true → (c : Column) → c .0 < columnEnd g (inPage f) → To from (columnGiven f c)
   column-whole h c below =
       let most = end-small in
       let end = columnEnd g (inPage f) in
       subst (λ (x : Column). To from (columnGiven f x)) (column-bytes c)
-      (address g flag fine (base .luns) (base .calm) from (Columns (columns f 1 (c .0 % 256))) output.Nothing (c .0 / 256) (omega arith) refl
+      (address g bad fine (base .luns) (base .calm) from (Columns (columns f 1 (c .0 % 256))) output.Nothing (c .0 / 256) (omega arith) refl
       (ap (λ (x : Column). leb end (x .0)) (column-bytes c) ∙ lt-leb end (c .0) below)
       (unasked refl refl)
       (column-low h (c .0 % 256) (omega arith)))
@@ -359,20 +359,20 @@ module _ (g : Geometry) (flag : ℕ) (fine : Fine (full g flag)) (f : First) (ba
 
   module _ (h : takesRow f ≡ true) (c : Column) (k : columnHeld g f c ≡ true) where
     row-low : (v : ℕ) → v ≤ 255 → To from (Rows (rows f c 1 v 0))
-    row-low v small = address g flag fine (base .luns) (base .calm) from (Rows (rows f c 0 0 0)) output.Nothing v small refl refl (unasked refl refl) (row-none h c k)
+    row-low v small = address g bad fine (base .luns) (base .calm) from (Rows (rows f c 0 0 0)) output.Nothing v small refl refl (unasked refl refl) (row-none h c k)
 
     row-mid : (low mid : ℕ) → low ≤ 255 → mid ≤ 255 → To from (Rows (rows f c 2 low mid))
-    row-mid low mid small smaller = address g flag fine (base .luns) (base .calm) from (Rows (rows f c 1 low 0)) output.Nothing mid smaller refl refl (unasked refl refl) (row-low low small)
+    row-mid low mid small smaller = address g bad fine (base .luns) (base .calm) from (Rows (rows f c 1 low 0)) output.Nothing mid smaller refl refl (unasked refl refl) (row-low low small)
 
-    pub row-whole : (r : Row) → rowFits g f r ≡ true → Unasked g (base .luns) (rowed f r) → (next : Then) → thenOf f ≡ next → Way (full g flag) (standing g (base .luns) (lunOf g r) (followed next f c r) (shown next (lunOf g r) 0 output.Nothing))
+    pub row-whole : (r : Row) → rowFits g f r ≡ true → Unasked g (base .luns) (rowed f r) → (next : Then) → thenOf f ≡ next → Way (full g bad) (standing g (base .luns) (lunOf g r) (followed next f c r) (shown next (lunOf g r) 0 output.Nothing))
     row-whole r there free next told =
         let low = r .0 % 256 in
         let mid = r .0 / 256 % 256 in
         let top = r .0 / 256 / 256 in
         let near : beyond g (completed (Rows (rows f c 2 low mid)) top) ≡ false = ap (λ (x : Row). not (rowFits g f x)) (row-bytes r) ∙ ap not there in
-        subst (λ (x : Then). Way (full g flag) (standing g (base .luns) (lunOf g r) (followed x f c r) (shown x (lunOf g r) 0 output.Nothing))) told
-        (subst (λ (x : Row). Way (full g flag) (standing g (base .luns) (lunOf g x) (followed (thenOf f) f c x) (shown (thenOf f) (lunOf g x) 0 output.Nothing))) (row-bytes r)
-        (address g flag fine (base .luns) (base .calm) from (Rows (rows f c 2 low mid)) output.Nothing top (row-small g (m g flag fine) r (row-named g f r h there)) refl near
+        subst (λ (x : Then). Way (full g bad) (standing g (base .luns) (lunOf g r) (followed x f c r) (shown x (lunOf g r) 0 output.Nothing))) told
+        (subst (λ (x : Row). Way (full g bad) (standing g (base .luns) (lunOf g x) (followed (thenOf f) f c x) (shown (thenOf f) (lunOf g x) 0 output.Nothing))) (row-bytes r)
+        (address g bad fine (base .luns) (base .calm) from (Rows (rows f c 2 low mid)) output.Nothing top (row-small g (m g bad fine) r (row-named g f r h there)) refl near
         (subst (λ (x : Row). Unasked g (base .luns) (rowed f x)) (sym (row-bytes r)) free)
         (row-mid low mid (omega arith) (omega arith))))
 
@@ -383,10 +383,10 @@ module _ (g : Geometry) (flag : ℕ) (fine : Fine (full g flag)) (f : First) (ba
       let one = eqb-true (cyclesOf f) 1 h in
       arrive (Single f) (rw (one)) (third-of (takesColumn f) (takesRow f) (eqb (cyclesOf f) 1) h)
 
-  pub answered : eqb (cyclesOf f) 1 ≡ true → (next : Then) → thenOf f ≡ next → (v : ℕ) → v ≤ 255 → knowsAddress f v ≡ true → Way (full g flag) (standing g (base .luns) from (followed next f (record { 0 = 0 }) (record { 0 = 0 })) (shown next 0 v output.Nothing))
+  pub answered : eqb (cyclesOf f) 1 ≡ true → (next : Then) → thenOf f ≡ next → (v : ℕ) → v ≤ 255 → knowsAddress f v ≡ true → Way (full g bad) (standing g (base .luns) from (followed next f (record { 0 = 0 }) (record { 0 = 0 })) (shown next 0 v output.Nothing))
   answered one next told v small h =
-      subst (λ (x : Then). Way (full g flag) (standing g (base .luns) from (followed x f (record { 0 = 0 }) (record { 0 = 0 })) (shown x 0 v output.Nothing))) told
-      (address g flag fine (base .luns) (base .calm) from (Single f) output.Nothing v small refl (rw (h)) (unasked refl refl) (single one))
+      subst (λ (x : Then). Way (full g bad) (standing g (base .luns) from (followed x f (record { 0 = 0 }) (record { 0 = 0 })) (shown x 0 v output.Nothing))) told
+      (address g bad fine (base .luns) (base .calm) from (Single f) output.Nothing v small refl (rw (h)) (unasked refl refl) (single one))
 
   -- A program, opened by a command that takes data.
 
@@ -400,20 +400,20 @@ module _ (g : Geometry) (flag : ℕ) (fine : Fine (full g flag)) (f : First) (ba
     -- past the register's last byte by data in there
     filling : (at : Column) → at .0 ≤ pageSize g → To (lunOf g r) (Filling (filling-at f r at))
     filling at most =
-        let least = m g flag fine .page-min in
+        let least = m g bad fine .page-min in
         to-end (λ (c : Column). standing g (base .luns) (lunOf g r) (Filling (filling-at f r c)) output.Nothing) (pageSize g) (omega arith) filling-below
-        (λ c below w. data-in g flag fine (base .luns) (base .calm) (lunOf g r) (Filling (filling-at f r c)) output.Nothing 0 (omega arith) refl refl (lt-leb (pageSize g) (c .0) below) refl w)
+        (λ c below w. data-in g bad fine (base .luns) (base .calm) (lunOf g r) (Filling (filling-at f r c)) output.Nothing 0 (omega arith) refl refl (lt-leb (pageSize g) (c .0) below) refl w)
         at most
 
     pub filling-first : To (lunOf g r) (Filling (filling-at f r (record { 0 = 0 })))
-    filling-first = let least = m g flag fine .page-min in filling-below (record { 0 = 0 }) (omega arith)
+    filling-first = let least = m g bad fine .page-min in filling-below (record { 0 = 0 }) (omega arith)
 
     moving-none : To (lunOf g r) (Moving (moved-to f r 0 0))
-    moving-none = second g flag fine (base .luns) (lunOf g r) _ output.Nothing 0x85 moving _ (λ _. moved g (base .luns) (lunOf g r) _ _) filling-first
+    moving-none = second g bad fine (base .luns) (lunOf g r) _ output.Nothing 0x85 moving _ (λ _. moved g (base .luns) (lunOf g r) _ _) filling-first
 
     moving-low : (v : ℕ) → v ≤ 255 → To (lunOf g r) (Moving (moved-to f r 1 v))
     moving-low v small =
-        address g flag fine (base .luns) (base .calm) (lunOf g r) (Moving (moved-to f r 0 0)) output.Nothing v small refl refl (unasked refl refl) moving-none
+        address g bad fine (base .luns) (base .calm) (lunOf g r) (Moving (moved-to f r 0 0)) output.Nothing v small refl refl (unasked refl refl) moving-none
 
   -- Numbers.
 
@@ -443,24 +443,24 @@ module _ (g : Geometry) (flag : ℕ) (fine : Fine (full g flag)) (f : First) (ba
     pub moving-byte : (v : ℕ) → v ≤ 255 → Stands g (Moving (moved-to f r 1 v))
     moving-byte v small = there _ _ (moving-low takes r exists free v small)
 
-module _ (g : Geometry) (flag : ℕ) (fine : Fine (full g flag)) where
+module _ (g : Geometry) (bad : ℕ) (fine : Fine (full g bad)) where
   abbrev Starting : ℕ → Sequence → Output → Type 0
-  Starting selected s o = Way (full g flag) (stand g selected s o)
+  Starting selected s o = Way (full g bad) (stand g bad selected s o)
 
   -- ECh and its address: the parameter page is open
   pub paged : Starting 0 Idle (output.Parameters 0)
   paged =
-      answered g flag fine ParameterPage (first-base g flag fine ParameterPage (page-is .3)) (page-is .0) then.ParameterPage (page-is .1)
+      answered g bad fine ParameterPage (first-base g bad fine ParameterPage (page-is .3)) (page-is .0) then.ParameterPage (page-is .1)
       0x00 (omega arith) (page-is .2)
 
   -- every command starts after FFh, 05h within the parameter page once that is open
-  abbrev pub begin : (f : First) → Base g flag f
+  abbrev pub begin : (f : First) → Base g bad f
   begin f = record {
-    luns = allReady;
-    calm = works-not;
+    luns = readyLuns g bad;
+    calm = works-not g bad;
     selected = 0;
     shows = before (inPage f);
-    way = by-pick (λ (o : Output). Starting 0 Idle o) (inPage f) (output.Parameters 0) output.Nothing (λ _. paged) (λ _. still g flag fine);
+    way = by-pick (λ (o : Output). Starting 0 Idle o) (inPage f) (output.Parameters 0) output.Nothing (λ _. paged) (λ _. still g bad fine);
     here = before-here f (inPage f) refl;
     silent = before-silent f (inPage f) refl;
     lost = before-lost f (inPage f) refl;
@@ -473,17 +473,17 @@ module _ (g : Geometry) (flag : ℕ) (fine : Fine (full g flag)) where
 
   setting-none : Taking 0 0
   setting-none =
-      answered g flag fine SetFeatures (begin SetFeatures) (features-is .0) then.FeatureIn (features-is .1) 0x01 (omega arith) (features-is .2)
+      answered g bad fine SetFeatures (begin SetFeatures) (features-is .0) then.FeatureIn (features-is .1) 0x01 (omega arith) (features-is .2)
 
   setting-one : (v : ℕ) → (eqb v 0 || eqb v 0x40) ≡ true → Taking 1 v
   setting-one v h =
-      data-in g flag fine allReady works-not 0 (Setting (setting 0 0)) output.Nothing v (small-value v h) refl (offered-value (eqb v 0) (eqb v 0x40) (hasFeature every 8) h takes-clear) refl refl setting-none
+      data-in g bad fine (readyLuns g bad) (works-not g bad) 0 (Setting (setting 0 0)) output.Nothing v (small-value v h) refl (offered-value (eqb v 0) (eqb v 0x40) (hasFeature every 8) h takes-clear) refl refl setting-none
 
   setting-two : (v : ℕ) → (eqb v 0 || eqb v 0x40) ≡ true → Taking 2 v
-  setting-two v h = data-in g flag fine allReady works-not 0 (Setting (setting 1 v)) output.Nothing 0 (omega arith) refl refl refl refl (setting-one v h)
+  setting-two v h = data-in g bad fine (readyLuns g bad) (works-not g bad) 0 (Setting (setting 1 v)) output.Nothing 0 (omega arith) refl refl refl refl (setting-one v h)
 
   pub setting-three : (v : ℕ) → (eqb v 0 || eqb v 0x40) ≡ true → Taking 3 v
-  setting-three v h = data-in g flag fine allReady works-not 0 (Setting (setting 2 v)) output.Nothing 0 (omega arith) refl refl refl refl (setting-two v h)
+  setting-three v h = data-in g bad fine (readyLuns g bad) (works-not g bad) 0 (Setting (setting 2 v)) output.Nothing 0 (omega arith) refl refl refl refl (setting-two v h)
 
   left-there : (selected : ℕ) (s : Sequence) → Starting selected s output.Nothing → Stands g s
   left-there selected s w = reached (λ (t : Target). t .decoder .sequence ≡ s) fine w refl
@@ -513,13 +513,13 @@ module _ (g : Geometry) (flag : ℕ) (fine : Fine (full g flag)) where
     due-column none =
         let given : columnGiven f (k .column) ≡ followed then.Second f (k .column) (record { 0 = 0 }) = rw (none, next) in
         let held : ltb (k .column .0) (columnEnd g (inPage f)) ≡ true = rw (lone none) at parts .1 in
-        subst (λ (s : Sequence). Starting 0 s output.Nothing) given (column-whole g flag fine f (begin f) (lone none) (k .column) (ltb-true _ _ held))
+        subst (λ (s : Sequence). Starting 0 s output.Nothing) given (column-whole g bad fine f (begin f) (lone none) (k .column) (ltb-true _ _ held))
 
     due-whole : Stands g (Due k)
     due-whole = by (takesRow f) refl (parts .2)
       where
         by : (b : Bool) → takesRow f ≡ b → pick b (rowFits g f (k .row)) (eqb (k .row .0) 0) ≡ true → Stands g (Due k)
-        by true e l = left-there _ _ (row-whole g flag fine f (begin f) e (k .column) (parts .1) (k .row) l (ready-free g f (k .row) (waits-plain f (parts .0))) then.Second next)
+        by true e l = left-there _ _ (row-whole g bad fine f (begin f) e (k .column) (parts .1) (k .row) l (ready-free g bad f (k .row) (waits-plain f (parts .0))) then.Second next)
         by false e l = subst (λ (x : Row). Stands g (followed then.Second f (k .column) x)) (zero-row (k .row) l) (left-there 0 _ (due-column e))
 
   -- 35h on a row, and its finish event: a copyback is open there.
@@ -528,7 +528,7 @@ module _ (g : Geometry) (flag : ℕ) (fine : Fine (full g flag)) where
     l = lunOf g r
 
     abbrev pub copying-luns : List Lun
-    copying-luns = set allReady l (lunBegun (lunAt allReady l) false true false)
+    copying-luns = copyingAt g bad l
 
     abbrev pub copied-luns : List Lun
     copied-luns = set copying-luns l (lunFinished (lunAt copying-luns l))
@@ -538,26 +538,26 @@ module _ (g : Geometry) (flag : ℕ) (fine : Fine (full g flag)) where
 
     reads : Starting l (Due due) output.Nothing
     reads =
-        let least = m g flag fine .page-min in
-        row-whole g flag fine Read (begin Read) (read-shape .1) (record { 0 = 0 }) (rw (read-shape .0, read-shape .4) (lt-ltb 0 (pageSize g) (omega arith))) r
+        let least = m g bad fine .page-min in
+        row-whole g bad fine Read (begin Read) (read-shape .1) (record { 0 = 0 }) (rw (read-shape .0, read-shape .4) (lt-ltb 0 (pageSize g) (omega arith))) r
         (read-fits g r exists)
-        (ready-free g Read r (read-shape .3)) then.Second (read-shape .2)
+        (ready-free g bad Read r (read-shape .3)) then.Second (read-shape .2)
 
-    copies : Way (full g flag) (standing g copying-luns l Idle (output.Register l (record { 0 = 0 })))
-    copies = second g flag fine allReady l (Due due) output.Nothing 0x35 (copying refl) _ (λ counts. copying-left g l r counts _) reads
+    copies : Way (full g bad) (standing g copying-luns l Idle (output.Register l (record { 0 = 0 })))
+    copies = second g bad fine (readyLuns g bad) l (Due due) output.Nothing 0x35 (copying refl) _ (λ counts. copying-left g bad l r counts _) reads
 
-    pub finishes : Way (full g flag) (standing g copied-luns l Idle (output.Register l (record { 0 = 0 })))
+    pub finishes : Way (full g bad) (standing g copied-luns l Idle (output.Register l (record { 0 = 0 })))
     finishes =
         let named = row-lun g r exists in
-        let most = m g flag fine .luns-max in
-        onward fine copies (event 4 l) (omega arith) (omega arith) (finish-accepted g l copying-luns _ named (copying-works l (omega arith))) _
+        let most = m g bad fine .luns-max in
+        onward fine copies (event 4 l) (omega arith) (omega arith) (finish-accepted g l copying-luns _ named (copying-works g bad l (omega arith))) _
         (λ _. finish-left g l copying-luns _ _)
 
     -- a command that takes data starts there
-    abbrev copied-base : (f : First) → takesProgramData f ≡ true → Base g flag f
+    abbrev copied-base : (f : First) → takesProgramData f ≡ true → Base g bad f
     copied-base f takes = record {
       luns = copied-luns;
-      calm = copied-calm l (let most = m g flag fine .luns-max in omega (arith, row-lun g r exists));
+      calm = copied-calm g bad l (let most = m g bad fine .luns-max in omega (arith, row-lun g r exists));
       selected = l;
       shows = output.Register l (record { 0 = 0 });
       way = finishes;
@@ -567,7 +567,7 @@ module _ (g : Geometry) (flag : ℕ) (fine : Fine (full g flag)) where
     }
 
     pub copied-open : copybackAt copied-luns l ≡ true
-    copied-open = copied-mark l (let most = m g flag fine .luns-max in omega (arith, row-lun g r exists))
+    copied-open = copied-mark g bad l (let most = m g bad fine .luns-max in omega (arith, row-lun g r exists))
 
     -- a row that asks for a copyback finds it there
     copied-free : (f : First) → needsCopyback f ≡ true → Unasked g copied-luns (rowed f r)
@@ -575,7 +575,7 @@ module _ (g : Geometry) (flag : ℕ) (fine : Fine (full g flag)) where
 
   -- A program: where 14 is asked of its row, after a copyback read there.
   pub record Opened (f : First) (r : Row) : Type 0 where
-    pub base : Base g flag f
+    pub base : Base g bad f
     pub free : Unasked g (base .luns) (rowed f r)
 
   pub program-from : (f : First) (r : Row) → takesProgramData f ≡ true → rowExists g r ≡ true → Opened f r
@@ -583,30 +583,30 @@ module _ (g : Geometry) (flag : ℕ) (fine : Fine (full g flag)) where
     where
       by : (b : Bool) → needsCopyback f ≡ b → Opened f r
       by true e = record { base = copied-base r exists f takes; free = copied-free r exists f e }
-      by false e = record { base = begin f; free = ready-free g f r e }
+      by false e = record { base = begin f; free = ready-free g bad f r e }
 
   -- Every number.
 
   pub sequence-given : (s : Sequence) → bytesHeld s → sequenceSound g s ≡ true → SequenceGiven g s
-  sequence-given Idle small h = left-there _ _ (still g flag fine)
+  sequence-given Idle small h = left-there _ _ (still g bad fine)
   sequence-given (Columns k) small h =
       let f = k .first in
       let p = both (takesColumn f) (ltb (k .got) 2) h in
-      let n = columns-count g flag fine f (begin f) (p .0) (k .got) (ltb-true _ _ (p .1)) in (
+      let n = columns-count g bad fine f (begin f) (p .0) (k .got) (ltb-true _ _ (p .1)) in (
         record { other = columns f (k .got) (n .0); stands = n .1; same = refl },
-        record { other = columns f 1 (k .low); stands = left-there _ _ (column-low g flag fine f (begin f) (p .0) (k .low) small); same = refl },
+        record { other = columns f 1 (k .low); stands = left-there _ _ (column-low g bad fine f (begin f) (p .0) (k .low) small); same = refl },
       )
   sequence-given (Rows k) small h =
       let f = k .first in
       let c = k .column in
       let p = both3 (takesRow f) (ltb (k .got) 3) (columnHeld g f c) h in
-      let n = rows-count g flag fine f (begin f) (p .0) c (p .2) (k .got) (ltb-true _ _ (p .1)) in (
+      let n = rows-count g bad fine f (begin f) (p .0) c (p .2) (k .got) (ltb-true _ _ (p .1)) in (
         record { other = rows f c (k .got) (n .0) (n .1); stands = n .2; same = refl },
         record { other = rows f c (k .got) (n .0) (n .1); stands = n .2; same = refl },
-        record { other = rows f c 1 (k .low) 0; stands = left-there _ _ (row-low g flag fine f (begin f) (p .0) c (p .2) (k .low) (small .0)); same = refl },
-        record { other = rows f c 2 0 (k .mid); stands = left-there _ _ (row-mid g flag fine f (begin f) (p .0) c (p .2) 0 (k .mid) (omega arith) (small .1)); same = refl },
+        record { other = rows f c 1 (k .low) 0; stands = left-there _ _ (row-low g bad fine f (begin f) (p .0) c (p .2) (k .low) (small .0)); same = refl },
+        record { other = rows f c 2 0 (k .mid); stands = left-there _ _ (row-mid g bad fine f (begin f) (p .0) c (p .2) 0 (k .mid) (omega arith) (small .1)); same = refl },
       )
-  sequence-given (Single f) small h = left-there _ _ (single g flag fine f (begin f) h)
+  sequence-given (Single f) small h = left-there _ _ (single g bad fine f (begin f) h)
   sequence-given (Due k) small h =
       let w = due-whole k h in
       (record { other = k; stands = w; same = refl }, record { other = k; stands = w; same = refl })
@@ -614,17 +614,17 @@ module _ (g : Geometry) (flag : ℕ) (fine : Fine (full g flag)) where
       let f = k .first in
       let p = both3 (takesProgramData f) (leb (k .at .0) (pageSize g)) (rowExists g (k .row)) h in
       let o = program-from f (k .row) (p .0) (p .2) in
-      let w : Stands g (Filling k) = filling-given g flag fine f (o .base) (p .0) (k .row) (p .2) (o .free) (k .at) (leb-true _ _ (p .1)) in
+      let w : Stands g (Filling k) = filling-given g bad fine f (o .base) (p .0) (k .row) (p .2) (o .free) (k .at) (leb-true _ _ (p .1)) in
       (record { other = k; stands = w; same = refl }, record { other = k; stands = w; same = refl })
   sequence-given (Moving k) small h =
       let f = k .first in
       let r = k .row in
       let p = both3 (takesProgramData f) (ltb (k .got) 2) (rowExists g r) h in
       let o = program-from f r (p .0) (p .2) in
-      let n = moving-count g flag fine f (o .base) (p .0) r (p .2) (o .free) (k .got) (ltb-true _ _ (p .1)) in (
+      let n = moving-count g bad fine f (o .base) (p .0) r (p .2) (o .free) (k .got) (ltb-true _ _ (p .1)) in (
         record { other = moved-to f r (k .got) (n .0); stands = n .1; same = refl },
         record { other = moved-to f r (k .got) (n .0); stands = n .1; same = refl },
-        record { other = moved-to f r 1 (k .low); stands = moving-byte g flag fine f (o .base) (p .0) r (p .2) (o .free) (k .low) small; same = refl },
+        record { other = moved-to f r 1 (k .low); stands = moving-byte g bad fine f (o .base) (p .0) r (p .2) (o .free) (k .low) small; same = refl },
       )
   sequence-given (Setting k) small h =
       let p = both (ltb (k .got) 4) (eqb (k .value) 0 || eqb (k .value) 0x40) h in

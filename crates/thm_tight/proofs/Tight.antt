@@ -2,13 +2,12 @@
 -- Assumes nothing.
 use mathlib.Core.Path.{_≡_, refl}
 use mathlib.Core.Bool.{Bool, true, false}
-use Prim.Native.Nat.{ℕ, _≤_, _<_}
+use Prim.Native.Nat.{ℕ, _*_, _≤_, _<_}
 use lib.Dec.{leb}
 use native.Mathlib.Omega.{arith}
 use Rattle.target.specs.Pick.{orElse}
 use Rattle.target.specs.Events.{badRecord}
 use Rattle.target.specs.Words.{bitOf}
-use Rattle.target.specs.Luns.{allReady}
 use Rattle.target.specs.Sizes.{inLimits}
 use Rattle.target.specs.declared.Geometry.{Geometry}
 use Rattle.target.specs.declared.Words.{Words}
@@ -22,20 +21,21 @@ use Rattle.rules.proofs.ByKind.{event, protect-verdict}
 use Rattle.lun_records.specs.LunsAfter.{lunsAfter}
 use Rattle.effects.specs.Effects.{clearAfter, highAfter, targetAfter}
 use Rattle.step.specs.Usable.{wordsSound}
+use Rattle.step.specs.Buffers.{nothingFound}
 use Rattle.step.proofs.Sound.{sound}
 use Rattle.thm_kept.proofs.Choice.{or-true}
 use Rattle.thm_tight.specs.Tight.{Reached, Tight}
 use Rattle.thm_tight.proofs.Part.{Part, Fine}
 use Rattle.thm_tight.proofs.Ways.{fresh, at-power, onward, reached}
 use Rattle.thm_tight.proofs.Commands.{every}
-use Rattle.thm_tight.proofs.Cycles.{full, stand, works-not, still, in-accepted}
+use Rattle.thm_tight.proofs.Cycles.{full, readyLuns, stand, works-not, still, in-accepted}
 use Rattle.thm_tight.proofs.Sequences.{setting, setting-three, sequence-given}
 use Rattle.thm_tight.proofs.Outputs.{status, output-given, kept-given}
-use Rattle.thm_tight.proofs.Marks.{working-given, fail-given, copyback-given}
+use Rattle.thm_tight.proofs.Marks.{working-given, fail-given, copyback-given, blank-given}
 
 -- a part of the geometry, with these words and IDs
 abbrev made : Geometry → Words → ℕ → ℕ → Part
-made g w maker device = record { geometry = g; words = w; maker = maker; device = device; flag = 0 }
+made g w maker device = record { geometry = g; words = w; maker = maker; device = device; bad = 0 }
 
 made-fine : (g : Geometry) (w : Words) (maker device : ℕ) → inLimits g ≡ true → wordsSound g w ≡ true → w .features ≤ 65535 → w .optional ≤ 65535 → maker ≤ 255 → device ≤ 255 → Fine (made g w maker device)
 made-fine g w maker device h s f o p q = record {
@@ -45,7 +45,7 @@ made-fine g w maker device h s f o p q = record {
   optional-word = o;
   maker-byte = p;
   device-byte = q;
-  flag-bit = omega arith;
+  bad-there = omega arith;
 }
 
 -- the words with every bit but the 16-bit bus, for any count of LUNs
@@ -53,15 +53,15 @@ every-sound : (g : Geometry) → wordsSound g every ≡ true
 unfolding bitOf
 every-sound g = or-true (leb (g .luns) 1)
 
-full-fine : (g : Geometry) (flag : ℕ) → inLimits g ≡ true → flag ≤ 1 → Fine (full g flag)
-full-fine g flag h k = record {
+full-fine : (g : Geometry) → inLimits g ≡ true → (bad : ℕ) → bad ≤ g .luns * g .blocks → Fine (full g bad)
+full-fine g h bad k = record {
   limited = h;
   worded = every-sound g;
   features-word = omega arith;
   optional-word = omega arith;
   maker-byte = omega arith;
   device-byte = omega arith;
-  flag-bit = k;
+  bad-there = k;
 }
 
 -- The protect line, program-clear, the first FFh.
@@ -70,23 +70,23 @@ lowers : (k : Part) → verdict (fresh k) (event 5 0) ≡ Accepted
 unfolding orElse badRecord lineHeld
 lowers k = protect-verdict (fresh k) 0
 
-lowered : (k : Part) (found : Findings) → targetAfter (fresh k) (event 5 0) found ≡ targetAfter (fresh k) (event 5 0) (record { proceeds = true })
+lowered : (k : Part) (found : Findings) → targetAfter (fresh k) (event 5 0) found ≡ targetAfter (fresh k) (event 5 0) nothingFound
 unfolding targetAfter lunsAfter
 lowered k found = refl
 
-is-low : (k : Part) → targetAfter (fresh k) (event 5 0) (record { proceeds = true }) .high ≡ false
+is-low : (k : Part) → targetAfter (fresh k) (event 5 0) nothingFound .high ≡ false
 unfolding targetAfter highAfter
 is-low k = refl
 
 -- EFh's fourth byte
 abbrev set : Geometry → Target
-set g = stand g 0 (Setting (setting 3 0x40)) output.Nothing
+set g = stand g 0 0 (Setting (setting 3 0x40)) output.Nothing
 
-cleared : (g : Geometry) (found : Findings) → targetAfter (set g) (event 2 0) found ≡ targetAfter (set g) (event 2 0) (record { proceeds = true })
+cleared : (g : Geometry) (found : Findings) → targetAfter (set g) (event 2 0) found ≡ targetAfter (set g) (event 2 0) nothingFound
 unfolding targetAfter lunsAfter
 cleared g found = refl
 
-is-clear : (g : Geometry) → targetAfter (set g) (event 2 0) (record { proceeds = true }) .clear ≡ true
+is-clear : (g : Geometry) → targetAfter (set g) (event 2 0) nothingFound .clear ≡ true
 unfolding targetAfter clearAfter
 is-clear g = refl
 
@@ -95,13 +95,13 @@ module _ (g : Geometry) (fine : Fine (full g 0)) where
   high-given true = reached (λ (t : Target). t .high ≡ true) fine (at-power (full g 0)) refl
   high-given false =
       reached (λ (t : Target). t .high ≡ false) fine
-      (onward fine (at-power (full g 0)) (event 5 0) (omega arith) (omega arith) (lowers (full g 0)) (targetAfter (fresh (full g 0)) (event 5 0) (record { proceeds = true })) (λ _. lowered (full g 0) _))
+      (onward fine (at-power (full g 0)) (event 5 0) (omega arith) (omega arith) (lowers (full g 0)) (targetAfter (fresh (full g 0)) (event 5 0) nothingFound) (λ _. lowered (full g 0) _))
       (is-low (full g 0))
 
   clear-given : (b : Bool) → Reached g (λ t. t .clear ≡ b)
   clear-given true =
       reached (λ (t : Target). t .clear ≡ true) fine
-      (onward fine (setting-three g 0 fine 0x40 refl) (event 2 0) (omega arith) (omega arith) (in-accepted g allReady works-not 0 (Setting (setting 3 0x40)) output.Nothing 0 refl refl refl) (targetAfter (set g) (event 2 0) (record { proceeds = true })) (λ _. cleared g _))
+      (onward fine (setting-three g 0 fine 0x40 refl) (event 2 0) (omega arith) (omega arith) (in-accepted g (readyLuns g 0) (works-not g 0) 0 (Setting (setting 3 0x40)) output.Nothing 0 refl refl refl) (targetAfter (set g) (event 2 0) nothingFound) (λ _. cleared g _))
       (is-clear g)
   clear-given false = reached (λ (t : Target). t .clear ≡ false) fine (at-power (full g 0)) refl
 
@@ -117,8 +117,8 @@ tight t typed h =
     let s = sound t h in
     let g = t .geometry in
     let w = t .words in
-    let fine = full-fine g 0 (s .limited) (omega arith) in
-    let ruined = full-fine g 1 (s .limited) (omega arith) in
+    let part = full-fine g (s .limited) in
+    let fine = part 0 (omega arith) in
     let worded = made-fine g w 0 0 (s .limited) (s .words) (typed .features) (typed .optional) (omega arith) (omega arith) in
     let named = made-fine g w (t .ids .maker) (t .ids .device) (s .limited) (s .words) (typed .features) (typed .optional) (typed .maker) (typed .device) in
     record {
@@ -131,9 +131,10 @@ tight t typed h =
       clear = clear-given g fine (t .clear);
       seen = seen-given g fine (t .seen);
       selected = selected-given g fine (t .selected) (s .selected);
-      working = λ l k. working-given g fine ruined l k (t .luns) (s .marks);
-      fail = λ l k. fail-given g fine ruined l k (t .luns) (s .marks);
-      copyback = λ l k. copyback-given g fine ruined l k (t .luns) (s .marks);
+      working = λ l k. working-given g part l k (t .luns) (s .marks);
+      fail = λ l k. fail-given g part l k (t .luns) (s .marks);
+      copyback = λ l k. copyback-given g part l k (t .luns) (s .marks);
+      blank = λ l k. blank-given g part l k (t .luns) (s .marks);
       sequence = sequence-given g 0 fine (t .decoder .sequence) (typed .sequence) (s .sequence);
       output = output-given g 0 fine (t .decoder .output) (s .output);
       kept = kept-given g 0 fine (t .decoder .kept) (s .kept);

@@ -11,7 +11,7 @@ use Prim.Native.Nat.{ℕ, _+_, _-_, _≤_, _<_}
 use native.Mathlib.Omega.{arith}
 use lib.Dec.{leb, ltb}
 use borrow.Author.Tests.{le-leb, ltb-true, ltb-false}
-use Rattle.target.specs.Luns.{allReady}
+use Rattle.target.specs.declared.Lun.{Lun}
 use Rattle.target.specs.declared.Column.{Column}
 use Rattle.target.specs.declared.Event.{Event}
 use Rattle.target.specs.declared.Target.{Target}
@@ -19,7 +19,7 @@ use Rattle.target.specs.declared.Sequence.the-variants.{Idle}
 use Rattle.target.specs.declared.Output.the-variants as output
 use Rattle.target.specs.declared.Verdict.the-variants.{Accepted}
 use Rattle.target.proofs.Both.{both}
-use Rattle.power.specs.Power.{poweredOf}
+use Rattle.power.specs.Power.{lunsFound, poweredOf}
 use Rattle.rules.specs.Rules.{verdict}
 use Rattle.effects.specs.Effects.{targetAfter}
 use Rattle.step.specs.Buffers.{findings}
@@ -32,7 +32,7 @@ use Rattle.thm_tight.specs.Tight.{byteEvents, Reached}
 use Rattle.thm_tight.proofs.Part.{Part, Fine, pageOf, arrayOf, registersOf, countsOf, flagsOf, geometry-is, words-is, maker-is, powers-on, page-bytes, array-bytes, registers-bytes}
 
 abbrev powered : Part → State
-powered k = poweredUp (pageOf k) (k .device) (arrayOf k) (registersOf k) (countsOf k)
+powered k = poweredUp (pageOf k) (k .device) (arrayOf k) (registersOf k) (countsOf k) (flagsOf k)
 
 abbrev standing : Part → List Event → State
 standing k es = after (pageOf k) (flagsOf k) es (powered k)
@@ -43,7 +43,11 @@ pub record Way (k : Part) (x : Target) : Type 0 where
   pub bytes : byteEvents events ≡ true
   pub stands : standing k events .target ≡ x
 
--- the record that power-on makes
+-- the LUN records that power-on makes
+abbrev pub foundIn : Part → List Lun
+foundIn k = lunsFound (k .geometry) (countsOf k) (flagsOf k)
+
+-- and the record
 abbrev pub fresh : Part → Target
 fresh k = record {
   powered = true;
@@ -54,7 +58,7 @@ fresh k = record {
   clear = false;
   seen = false;
   selected = 0;
-  luns = allReady;
+  luns = foundIn k;
   decoder = record { sequence = Idle; output = output.Nothing; kept = output.Nothing };
 }
 
@@ -72,7 +76,7 @@ at-power k = record {
     clear = false;
     seen = false;
     selected = 0;
-    luns = allReady;
+    luns = lunsFound (geometry-is k i) (countsOf k) (flagsOf k);
     decoder = record { sequence = Idle; output = output.Nothing; kept = output.Nothing };
   };
 }

@@ -9,7 +9,7 @@ use Prim.Native.Nat.{ℕ, _<_, _≤_}
 use lib.ListN.{length}
 use lib.Dec.{leb}
 use Rattle.slices.specs.Cells.{allAtMost}
-use Rattle.target.specs.Luns.{works, failed, copybackAt}
+use Rattle.target.specs.Luns.{works, failed, copybackAt, blankAt}
 use Rattle.target.specs.declared.Event.{Event}
 use Rattle.target.specs.declared.Geometry.{Geometry}
 use Rattle.target.specs.declared.Target.{Target}
@@ -47,7 +47,7 @@ pub record Reached (g : Geometry) (P : Target → Type 0) : Type 0 where
   pub events-bytes : byteEvents events ≡ true
   pub on : powerAnswer page (length array) (length registers) counts flags ≡ Accepted
   pub sizes : geometryOf page ≡ g
-  pub holds : P (after page flags events (poweredUp page device array registers counts) .target)
+  pub holds : P (after page flags events (poweredUp page device array registers counts flags) .target)
 
 -- a run that leaves this sequence, this output, this output kept behind a status
 abbrev pub Stands : Geometry → Sequence → Type 0
@@ -122,6 +122,7 @@ pub record Given (t : Target) : Type 0 where
   pub working : (l : ℕ) → l < 4 → Reached (t .geometry) (λ u. works (u .luns) l ≡ works (t .luns) l)
   pub fail : (l : ℕ) → l < 4 → Reached (t .geometry) (λ u. failed (u .luns) l ≡ failed (t .luns) l)
   pub copyback : (l : ℕ) → l < 4 → Reached (t .geometry) (λ u. copybackAt (u .luns) l ≡ copybackAt (t .luns) l)
+  pub blank : (l : ℕ) → l < 4 → Reached (t .geometry) (λ u. blankAt (u .luns) l ≡ blankAt (t .luns) l)
   pub sequence : SequenceGiven (t .geometry) (t .decoder .sequence)
   pub output : OutputGiven (t .geometry) (t .decoder .output)
   pub kept : KeptGiven (t .geometry) (t .decoder .kept)

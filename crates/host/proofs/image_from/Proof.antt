@@ -13,6 +13,9 @@ of-fail-requires c κs = search needs
 of-copyback-requires : tie.Need-of-copyback-requires
 of-copyback-requires c κs = search needs
 
+of-blank-requires : tie.Need-of-blank-requires
+of-blank-requires c κs = search needs
+
 mark-byte-requires : tie.Need-mark-byte-requires
 mark-byte-requires c κs = search needs
 
@@ -33,14 +36,16 @@ returns c =
     let c4 = c3 .before in
     let c5 = c4 .before in
     let c6 = c5 .before in
+    let c7 = c6 .before in
     rw (
       c .mark-byte4 .ensures,
       c1 .mark-byte3 .ensures,
       c2 .mark-byte2 .ensures,
       c3 .mark-byte .ensures,
-      c4 .of-copyback .ensures,
-      c5 .of-fail .ensures,
-      c6 .of-working .ensures,
+      c4 .of-blank .ensures,
+      c5 .of-copyback .ensures,
+      c6 .of-fail .ensures,
+      c7 .of-working .ensures,
     )
 
 pub image-from-spec : {M : Type 1} → statement M
@@ -50,6 +55,7 @@ image-from-spec =
     of-working-requires
     of-fail-requires
     of-copyback-requires
+    of-blank-requires
     mark-byte-requires
     mark-byte-requires-2
     mark-byte-requires-3

@@ -13,6 +13,15 @@ enum-known-k c = search needs
 second-row-requires : tie.Need-second-row-requires
 second-row-requires c κs = search needs
 
+lun-of-requires : tie.Need-lun-of-requires
+lun-of-requires c κs = search needs
+
+blank-at-requires : tie.Need-blank-at-requires
+blank-at-requires c κs = search needs
+
+blank-after-requires : tie.Need-blank-after-requires
+blank-after-requires c κs = search needs
+
 end-closes-requires : tie.Need-end-closes-requires
 end-closes-requires c κs = search needs
 
@@ -30,13 +39,19 @@ returns-2 c =
     let c1 = c .before in
     let c2 = c1 .before in
     let c4 = c2 .before .before in
-    let c7 = c4 .before .before .before in
+    let c5 = c4 .before in
+    let c6 = c5 .before in
+    let c7 = c6 .before in
+    let c10 = c7 .before .before .before in
     rw (
       c .pick-luns .ensures,
       c1 .begun .ensures,
       c2 .end-closes .ensures,
-      c4 .second-row .ensures,
-      c7 .k .given .1,
+      c4 .blank-after .ensures,
+      c5 .blank-at .ensures,
+      c6 .lun-of .ensures,
+      c7 .second-row .ensures,
+      c10 .k .given .1,
     )
 
 pub ended-luns-spec : {M : Type 1} → statement M
@@ -46,6 +61,9 @@ ended-luns-spec =
     enum-told
     enum-known-k
     second-row-requires
+    lun-of-requires
+    blank-at-requires
+    blank-after-requires
     end-closes-requires
     begun-requires
     pick-luns-requires

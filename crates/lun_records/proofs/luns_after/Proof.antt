@@ -10,8 +10,8 @@ use Rattle.lun_records.proofs.luns_after.Tie as tie
 is-reset-requires : tie.Need-is-reset-requires
 is-reset-requires c κs = search needs
 
-lun-ready-requires : tie.Need-lun-ready-requires
-lun-ready-requires c κs = search needs
+all-readied-requires : tie.Need-all-readied-requires
+all-readied-requires c κs = search needs
 
 returns : tie.Need-returns
 unfolding lunsAfter
@@ -21,7 +21,7 @@ returns c =
     rw (
       ← c2 .is-reset .ensures,
       c1 .if1 .taken,
-      c .lun-ready .ensures,
+      c .all-readied .ensures,
     )
 
 ending-requires : tie.Need-ending-requires
@@ -111,7 +111,7 @@ luns-after-spec =
     tie.close
     (tie.spec
     is-reset-requires
-    lun-ready-requires
+    all-readied-requires
     returns
     ending-requires
     ended-luns-requires

@@ -30,7 +30,7 @@ perform-requires c κs =
 target-after-requires : tie.Need-target-after-requires
 target-after-requires c κs =
     let start = c .before .before .before .before .before .before .before .before .before .before .before .before .before .before .before .before .before .before .before .before .before .before .before in
-    places-small _ (start .pre .0)
+    (sound _ (start .pre .0) .limited, places-small _ (start .pre .0))
 
 same-length : tie.Need-same-length
 same-length c = search needs

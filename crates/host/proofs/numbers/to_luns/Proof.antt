@@ -13,11 +13,11 @@ array-read-lun-of-2 c = search needs
 array-read-lun-of-3 : tie.Need-array-read-lun-of-3
 array-read-lun-of-3 c = search needs
 
-lun-of-requires : tie.Need-lun-of-requires
-lun-of-requires c κs = search needs
-
 array-read-lun-of-4 : tie.Need-array-read-lun-of-4
 array-read-lun-of-4 c = search needs
+
+lun-of-requires : tie.Need-lun-of-requires
+lun-of-requires c κs = search needs
 
 array-read-lun-of-5 : tie.Need-array-read-lun-of-5
 array-read-lun-of-5 c = search needs
@@ -25,20 +25,17 @@ array-read-lun-of-5 c = search needs
 array-read-lun-of-6 : tie.Need-array-read-lun-of-6
 array-read-lun-of-6 c = search needs
 
-lun-of-requires-2 : tie.Need-lun-of-requires-2
-lun-of-requires-2 c κs = search needs
-
 array-read-lun-of-7 : tie.Need-array-read-lun-of-7
 array-read-lun-of-7 c = search needs
 
 array-read-lun-of-8 : tie.Need-array-read-lun-of-8
 array-read-lun-of-8 c = search needs
 
+lun-of-requires-2 : tie.Need-lun-of-requires-2
+lun-of-requires-2 c κs = search needs
+
 array-read-lun-of-9 : tie.Need-array-read-lun-of-9
 array-read-lun-of-9 c = search needs
-
-lun-of-requires-3 : tie.Need-lun-of-requires-3
-lun-of-requires-3 c κs = search needs
 
 array-read-lun-of-10 : tie.Need-array-read-lun-of-10
 array-read-lun-of-10 c = search needs
@@ -48,6 +45,21 @@ array-read-lun-of-11 c = search needs
 
 array-read-lun-of-12 : tie.Need-array-read-lun-of-12
 array-read-lun-of-12 c = search needs
+
+lun-of-requires-3 : tie.Need-lun-of-requires-3
+lun-of-requires-3 c κs = search needs
+
+array-read-lun-of-13 : tie.Need-array-read-lun-of-13
+array-read-lun-of-13 c = search needs
+
+array-read-lun-of-14 : tie.Need-array-read-lun-of-14
+array-read-lun-of-14 c = search needs
+
+array-read-lun-of-15 : tie.Need-array-read-lun-of-15
+array-read-lun-of-15 c = search needs
+
+array-read-lun-of-16 : tie.Need-array-read-lun-of-16
+array-read-lun-of-16 c = search needs
 
 lun-of-requires-4 : tie.Need-lun-of-requires-4
 lun-of-requires-4 c κs = search needs
@@ -71,17 +83,21 @@ to-luns-spec =
     array-read-lun-of
     array-read-lun-of-2
     array-read-lun-of-3
-    lun-of-requires
     array-read-lun-of-4
+    lun-of-requires
     array-read-lun-of-5
     array-read-lun-of-6
-    lun-of-requires-2
     array-read-lun-of-7
     array-read-lun-of-8
+    lun-of-requires-2
     array-read-lun-of-9
-    lun-of-requires-3
     array-read-lun-of-10
     array-read-lun-of-11
     array-read-lun-of-12
+    lun-of-requires-3
+    array-read-lun-of-13
+    array-read-lun-of-14
+    array-read-lun-of-15
+    array-read-lun-of-16
     lun-of-requires-4
     returns)

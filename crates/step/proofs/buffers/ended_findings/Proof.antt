@@ -22,21 +22,46 @@ proceeds-requires c κs =
     let there = rw (c3 .k .given .1) at (start .pre .1) in
     (start .pre .0, rw (c .second-row .ensures) there)
 
+was-blank-requires : tie.Need-was-blank-requires
+unfolding EnderReaches
+was-blank-requires c κs =
+    let c1 = c .before in
+    let c4 = c1 .before .before .before in
+    let start = c4 .before .before .before .before in
+    let there = rw (c4 .k .given .1) at (start .pre .1) in
+    (start .pre .0, rw (c1 .second-row .ensures) there)
+
+nothing-found-requires : tie.Need-nothing-found-requires
+nothing-found-requires c κs = search needs
+
 returns : tie.Need-returns
 returns c =
-    rw (c .enum-told .given .1)
+    rw (
+      c .nothing-found .ensures,
+      c .before .enum-told .given .1,
+    )
 
 returns-2 : tie.Need-returns-2
 returns-2 c =
     let c1 = c .before in
-    let c4 = c1 .before .before .before in
+    let c2 = c1 .before in
+    let c5 = c2 .before .before .before in
     rw (
-      c .proceeds .ensures,
-      c1 .second-row .ensures,
-      c4 .k .given .1,
+      c .was-blank .ensures,
+      c1 .proceeds .ensures,
+      c2 .second-row .ensures,
+      c5 .k .given .1,
     )
 
 pub ended-findings-spec : {M : Type 1} → statement M
 ended-findings-spec =
     tie.close
-    (tie.spec enum-told enum-known-k second-row-requires proceeds-requires returns returns-2)
+    (tie.spec
+    enum-told
+    nothing-found-requires
+    enum-known-k
+    second-row-requires
+    proceeds-requires
+    was-blank-requires
+    returns
+    returns-2)

@@ -26,10 +26,18 @@ returns c =
       c2 .if1 .taken,
     )
 
+nothing-found-requires : tie.Need-nothing-found-requires
+nothing-found-requires c κs = search needs
+
 returns-2 : tie.Need-returns-2
 unfolding findings
 returns-2 c =
-    rw (ne-eqb _ _ (c .if1 .left))
+    rw (
+      ne-eqb _ _ (c .before .if1 .left),
+      c .nothing-found .ensures,
+    )
 
 pub findings-spec : {M : Type 1} → statement M
-findings-spec = tie.close (tie.spec ending-requires ended-findings-requires returns returns-2)
+findings-spec =
+    tie.close
+    (tie.spec ending-requires ended-findings-requires nothing-found-requires returns returns-2)

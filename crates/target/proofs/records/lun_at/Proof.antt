@@ -3,7 +3,7 @@
 use Prim.Native.Nat.{_≤_}
 use native.Mathlib.Omega.{arith}
 use lib.ListN.{length, List·getD-eq-default}
-use Rattle.target.specs.Luns.{lunReady}
+use Rattle.target.specs.Luns.{lunUnused}
 use borrow.Author.Needs.{needs}
 use Rattle.target.proofs.records.lun_at.Statement.{statement}
 use Rattle.target.proofs.records.lun_at.Tie as tie
@@ -24,7 +24,7 @@ returns-2 : tie.Need-returns-2
 returns-2 c =
     let luns = c .before .before .args .t1 in
     let past : length luns ≤ c .before .before .args .l = omega arith in
-    rw (c .lun-ready .ensures, List·getD-eq-default luns lunReady past)
+    rw (c .lun-ready .ensures, List·getD-eq-default luns lunUnused past)
 
 pub lun-at-spec : {M : Type 1} → statement M
 lun-at-spec =
