@@ -34,8 +34,10 @@ use Rattle.thm_kept.proofs.Choice.{by-pick}
 use Rattle.thm_steps.proofs.Program.{part-byte}
 use Rattle.thm_steps.proofs.PageOrder.{some-here, none-set}
 use Rattle.thm_steps.proofs.Status.{stored-leaves}
+use Rattle.thm_steps.proofs.Blank.{movesAct}
+use Rattle.thm_demands.proofs.Promised.{blanks-few}
 use Rattle.thm_blank.specs.Walked as statement
-use Rattle.thm_blank.proofs.Walks.{one, own-walk, other-walk, blank-same, walk-few}
+use Rattle.thm_blank.proofs.Walks.{one, own-walk, other-walk, blank-same}
 
 -- a byte of a list of zeros
 zero-byte : (n i : ℕ) → _≡_ {A = ℕ} (getD (replicate n 0) i 0) 0
@@ -46,14 +48,6 @@ zero-byte (suc n) (suc i) = zero-byte n i
 and-not : (a : Bool) → (a && not true) ≡ false
 and-not true = refl
 and-not false = refl
-
--- what programs or erases
-abbrev pub movesAct : Act → Bool
-movesAct act.Nothing = false
-movesAct act.Load = false
-movesAct act.Program = true
-movesAct act.Erase = true
-movesAct act.Move = false
 
 module _ (g : Geometry) (words : Words) (flags : List ℕ) where
   -- the numbers are the walk's
@@ -169,7 +163,7 @@ module _ (g : Geometry) (words : Words) (flags : List ℕ) where
 
       few : blankBlocks g (lunOf g r) erased flags ≤ g .blocks
       unfolding blankBlocks
-      few = walk-few g (lunOf g r * g .blocks) (g .blocks) erased flags
+      few = blanks-few g (lunOf g r * g .blocks) (g .blocks) erased flags
 
       erase-number : (b : Bool) → blankBlock g place counts flags ≡ b
           → pick (not b) (oneMore g number) number ≡ blankBlocks g (lunOf g r) erased flags

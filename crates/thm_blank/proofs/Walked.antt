@@ -53,8 +53,9 @@ use Rattle.thm_kept.proofs.Kept.{step-steady, step-usable}
 use Rattle.thm_demands.specs.Runs.{stepAt, left, after, poweredUp}
 use Rattle.thm_demands.proofs.Promised.{powered-fit}
 use Rattle.thm_steps.proofs.Status.{stored-leaves, row-leaves}
+use Rattle.thm_steps.proofs.Blank.{movesAct, readied-leaves}
 use Rattle.thm_blank.specs.Walked.{Walked, AlwaysWalked}
-use Rattle.thm_blank.proofs.Moves.{Counted, still, movesAct, ended}
+use Rattle.thm_blank.proofs.Moves.{Counted, still, ended}
 
 -- two definitions that pick by the same test
 by-pick-both : {A B : Type 0} (P : A → B → Type 0) (b : Bool) (x y : A) (u v : B) → (b ≡ true → P x u) → (b ≡ false → P y v)
@@ -84,14 +85,7 @@ module _ (g : Geometry) (words : Words) (flags : List ℕ) (luns : List Lun) (co
   -- FFh
   readied : Holds (allReadied luns) work.ClearAll
   unfolding countsAfter
-  readied l h = number l (omega (arith, h, four)) ∙ so-far l h
-    where
-      number : (l : ℕ) → l < 4 → blankAt (allReadied luns) l ≡ blankAt luns l
-      number zero h = refl
-      number (suc zero) h = refl
-      number (suc (suc zero)) h = refl
-      number (suc (suc (suc zero))) h = refl
-      number (suc (suc (suc (suc l)))) h = absurd (omega (arith, h))
+  readied l h = readied-leaves luns l (omega (arith, h, four)) ∙ so-far l h
 
   -- a first command
   opened : (clear : Bool) (f : FirstFound) → Holds luns (firstWork clear f)

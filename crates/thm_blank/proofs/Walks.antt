@@ -97,14 +97,3 @@ pub blank-same : (g : Geometry) (counts now flags : List ℕ) (m : ℕ) → part
     → blankBlock g m now flags ≡ blankBlock g m counts flags
 unfolding blankBlock
 blank-same g counts now flags m same = ap (λ (xs : List ℕ). eqb (getD flags m 0) 0 && not (someSet xs)) same
-
--- and the walk finds no more than it passes
-pub walk-few : (g : Geometry) (first n : ℕ) (counts flags : List ℕ) → blanksFrom g first n counts flags ≤ n
-walk-few g first zero counts flags = omega arith
-walk-few g first (suc n) counts flags =
-    let few : (b : Bool) → one b ≤ 1 = at-most-one in
-    omega (arith, few (blankBlock g (first + n) counts flags), walk-few g first n counts flags)
-  where
-    at-most-one : (b : Bool) → one b ≤ 1
-    at-most-one true = omega arith
-    at-most-one false = omega arith

@@ -343,7 +343,7 @@ line-low-run page flags (e ∷ es) s h =
 -- Runs from an accepted power-on.
 
 -- the walk finds no more blank blocks than it passes
-blanks-few : (g : Geometry) (first n : ℕ) (counts flags : List ℕ) → blanksFrom g first n counts flags ≤ n
+pub blanks-few : (g : Geometry) (first n : ℕ) (counts flags : List ℕ) → blanksFrom g first n counts flags ≤ n
 blanks-few g first zero counts flags = omega arith
 blanks-few g first (suc n) counts flags =
     let one : pick (blankBlock g (first + n) counts flags) 1 0 ≤ 1 =

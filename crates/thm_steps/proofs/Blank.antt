@@ -71,7 +71,7 @@ module _ (g : Geometry) (r : Row) (counts flags : List ℕ) where
   never-bad bad = rw (not-true (eqb (getD flags (blockIndex g r) 0) 0) bad)
 
 -- FFh leaves each number
-readied-leaves : (luns : List Lun) (l : ℕ) → l < 4 → blankAt (allReadied luns) l ≡ blankAt luns l
+pub readied-leaves : (luns : List Lun) (l : ℕ) → l < 4 → blankAt (allReadied luns) l ≡ blankAt luns l
 readied-leaves luns zero h = refl
 readied-leaves luns (suc zero) h = refl
 readied-leaves luns (suc (suc zero)) h = refl
@@ -79,7 +79,7 @@ readied-leaves luns (suc (suc (suc zero))) h = refl
 readied-leaves luns (suc (suc (suc (suc l)))) h = absurd (omega (arith, h))
 
 -- a second command that is neither 10h nor D0h neither programs nor erases
-abbrev movesAct : Act → Bool
+abbrev pub movesAct : Act → Bool
 movesAct act.Nothing = false
 movesAct act.Load = false
 movesAct act.Program = true
