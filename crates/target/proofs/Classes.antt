@@ -1,14 +1,18 @@
 -- The class table's rule against the command list: one computed test over its 256 entries.
 -- Assumes nothing.
-use mathlib.Core.Path.{_≡_, refl, sym, _∙_}
-use mathlib.Core.Bool.{Bool}
-use mathlib.Core.List.{List, [], _∷_}
+use mathlib.Core.Path.{_≡_, refl, sym, ap, _∙_}
+use mathlib.Core.Bool.{Bool, true, false, _&&_, _||_}
+use mathlib.Core.List.{List, [], _∷_, map}
 use Prim.Native.Nat.{ℕ, _<_}
 use native.Mathlib.Omega.{arith}
 use lib.Dec.{eqb}
 use borrow.Author.Tests.{eqb-true}
 use lib.ListN.{length, getD}
-use Rattle.target.specs.Commands.{classOf, rowOf, secondRow}
+use Rattle.target.specs.Pick.{pick}
+use Rattle.target.specs.Commands.{classOf, rowOf, secondRow, byteOf, firstCommands, firstIn, firstOf, isIn, firstBytes, secondBytes, aloneBytes, isFirst}
+use Rattle.target.specs.declared.First.{First as Command}
+use Rattle.target.specs.declared.commands.FirstFound.{FirstFound}
+use Rattle.target.specs.declared.commands.FirstFound.the-variants as first
 use Rattle.target.specs.declared.commands.Class.{Class}
 use Rattle.target.specs.declared.commands.Class.the-variants.{First, Second, Both, Alone, Unknown}
 use Rattle.target.proofs.Table.{at-place}
@@ -91,3 +95,28 @@ unlisted Unknown n e a b c d = refl
 
 pub unknown-told : (v : ℕ) → v < 256 → (getD classes v 0 ≡ 1 → ⊥) → (getD classes v 0 ≡ 2 → ⊥) → (getD classes v 0 ≡ 3 → ⊥) → (getD classes v 0 ≡ 4 → ⊥) → Unknown ≡ classOf v
 unknown-told v h = unlisted (classOf v) (getD classes v 0) (table-right v h)
+
+-- The byte of a first command is found in the list just where its class says so.
+
+abbrev pub found : FirstFound → Bool
+found first.Nothing = false
+found (first.Found f) = true
+
+found-or : (b : Bool) (f : Command) (k : FirstFound) (c : Bool) → found k ≡ c → found (pick b (first.Found f) k) ≡ (b || c)
+found-or true f k c h = refl
+found-or false f k c h = h
+
+found-in : (fs : List Command) (v : ℕ) → found (firstIn fs v) ≡ isIn v (map byteOf fs)
+found-in [] v = refl
+found-in (f ∷ fs) v = found-or (eqb v (byteOf f)) f (firstIn fs v) (isIn v (map byteOf fs)) (found-in fs v)
+
+first-of-class : (a b c : Bool) → a ≡ isFirst (pick (a && b) Both (pick a First (pick b Second (pick c Alone Unknown))))
+first-of-class true true c = refl
+first-of-class true false c = refl
+first-of-class false true c = refl
+first-of-class false false true = refl
+first-of-class false false false = refl
+
+pub found-class : (v : ℕ) (k : FirstFound) → k ≡ firstOf v → found k ≡ isFirst (classOf v)
+unfolding classOf firstOf
+found-class v k h = ap found h ∙ found-in firstCommands v ∙ first-of-class (isIn v firstBytes) (isIn v secondBytes) (isIn v aloneBytes)

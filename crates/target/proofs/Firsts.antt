@@ -9,7 +9,7 @@ use native.Mathlib.Nat.{le-of-suc-le-suc, not-suc-le-zero}
 use lib.Dec.{lit<, eqb}
 use borrow.Author.Tests.{eqb-true}
 use lib.ListN.{length, getD}
-use Rattle.target.specs.Commands.{firstCommands, placeOf, rowOf, byteOf, inPage, endOf, otherEnd, firstOf, secondPlace, secondOf}
+use Rattle.target.specs.Commands.{firstCommands, placeOf, rowOf, byteOf, inPage, endOf, otherEnd, firstOf, secondOf}
 use Rattle.target.specs.Views.{endsWith}
 use Rattle.target.specs.declared.First.{First}
 use Rattle.target.specs.declared.First.the-variants.{Read, ChangeColumn, ChangeColumnEnhanced, Erase, Status, StatusEnhanced, Program, ReadId, ParameterPage, GetFeatures, SetFeatures, CopybackProgram, ChangeColumnInPage}
@@ -34,14 +34,6 @@ listed GetFeatures = lit< tt
 listed SetFeatures = lit< tt
 listed CopybackProgram = lit< tt
 listed ChangeColumnInPage = lit< tt
-
-pub second-listed : (s : Second) → secondPlace s < 6
-second-listed StartRead = lit< tt
-second-listed StartOutput = lit< tt
-second-listed StartProgram = lit< tt
-second-listed StartErase = lit< tt
-second-listed Move = lit< tt
-second-listed StartCopyback = lit< tt
 
 -- each stands at its place
 standing : (f : First) → getD firstCommands (placeOf f) Read ≡ f

@@ -4,7 +4,7 @@ use crate::Second;
 use crate::Words;
 use crate::bits::has_option;
 ghost use mathlib.Core.Path.{_≡_};
-ghost use Rattle.target.specs.Commands.{classOf, isFirst, isKnown, firstOf, placeOf, rowOf, byteOf, cyclesOf, endOf, looksOf, thenOf, needsReady, waitsFor, clearsRegister, knowsAddress, takesColumn, takesRow, waitsSecond, secondPlace, secondRow, secondOf, offeredTo, offeredFound, offeredSecond, isSecondFound, offered, otherEnd, closesCopyback, needsCopyback, takesProgramData, givesStatus, inPage};
+ghost use Rattle.target.specs.Commands.{classOf, isFirst, isKnown, firstOf, placeOf, rowOf, byteOf, cyclesOf, endOf, looksOf, thenOf, needsReady, waitsFor, clearsRegister, knowsAddress, takesColumn, takesRow, waitsSecond, secondRow, secondOf, offeredTo, offeredFound, offeredSecond, isSecondFound, offered, otherEnd, closesCopyback, needsCopyback, takesProgramData, givesStatus, inPage};
 
 // Each command byte has one class; optional bits don't count.
 pub enum Class {
@@ -294,16 +294,13 @@ pub fn class_of(v: u8) -> Class
     Class::Unknown
 }
 
-// The byte opens a sequence.
+// The byte opens a sequence: it is in the list of first commands.
 pub fn is_first(v: u8) -> bool
     ensures { λ b. ⌜ b ≡ isFirst (classOf v) ⌝ }
 {
-    match class_of(v) {
-        Class::First => true,
-        Class::Second => false,
-        Class::Both => true,
-        Class::Alone => false,
-        Class::Unknown => false,
+    match first_of(v) {
+        FirstFound::Nothing => false,
+        FirstFound::Found(_) => true,
     }
 }
 
@@ -386,228 +383,255 @@ pub struct FirstRow {
     pub page: bool,
 }
 
+const READ: FirstRow = FirstRow {
+    byte: 0x00,
+    cycles: 5,
+    second: 0x30,
+    or: 0x35,
+    looks: Looks::Page,
+    then: Then::Second,
+    ready: true,
+    waits: Waits::Nobody,
+    clears: false,
+    closes: false,
+    copies: false,
+    one: 0x00,
+    other: 0x00,
+    option: 16,
+    page: false,
+};
+
+const CHANGE_COLUMN: FirstRow = FirstRow {
+    byte: 0x05,
+    cycles: 2,
+    second: 0xe0,
+    or: 0x00,
+    looks: Looks::Nothing,
+    then: Then::Second,
+    ready: true,
+    waits: Waits::Nobody,
+    clears: false,
+    closes: false,
+    copies: false,
+    one: 0x00,
+    other: 0x00,
+    option: 16,
+    page: false,
+};
+
+const CHANGE_COLUMN_ENHANCED: FirstRow = FirstRow {
+    byte: 0x06,
+    cycles: 5,
+    second: 0xe0,
+    or: 0x00,
+    looks: Looks::Lun,
+    then: Then::Second,
+    ready: true,
+    waits: Waits::Nobody,
+    clears: false,
+    closes: false,
+    copies: false,
+    one: 0x00,
+    other: 0x00,
+    option: 6,
+    page: false,
+};
+
+const ERASE: FirstRow = FirstRow {
+    byte: 0x60,
+    cycles: 3,
+    second: 0xd0,
+    or: 0x00,
+    looks: Looks::Block,
+    then: Then::Second,
+    ready: true,
+    waits: Waits::Nobody,
+    clears: false,
+    closes: false,
+    copies: false,
+    one: 0x00,
+    other: 0x00,
+    option: 16,
+    page: false,
+};
+
+const STATUS: FirstRow = FirstRow {
+    byte: 0x70,
+    cycles: 0,
+    second: 0x00,
+    or: 0x00,
+    looks: Looks::Nothing,
+    then: Then::Status,
+    ready: false,
+    waits: Waits::Others,
+    clears: false,
+    closes: false,
+    copies: false,
+    one: 0x00,
+    other: 0x00,
+    option: 16,
+    page: false,
+};
+
+const STATUS_ENHANCED: FirstRow = FirstRow {
+    byte: 0x78,
+    cycles: 3,
+    second: 0x00,
+    or: 0x00,
+    looks: Looks::Lun,
+    then: Then::Status,
+    ready: false,
+    waits: Waits::Nobody,
+    clears: false,
+    closes: false,
+    copies: false,
+    one: 0x00,
+    other: 0x00,
+    option: 3,
+    page: false,
+};
+
+const PROGRAM: FirstRow = FirstRow {
+    byte: 0x80,
+    cycles: 5,
+    second: 0x10,
+    or: 0x00,
+    looks: Looks::Page,
+    then: Then::Data,
+    ready: true,
+    waits: Waits::Nobody,
+    clears: true,
+    closes: true,
+    copies: false,
+    one: 0x00,
+    other: 0x00,
+    option: 16,
+    page: false,
+};
+
+const READ_ID: FirstRow = FirstRow {
+    byte: 0x90,
+    cycles: 1,
+    second: 0x00,
+    or: 0x00,
+    looks: Looks::Nothing,
+    then: Then::Id,
+    ready: false,
+    waits: Waits::All,
+    clears: false,
+    closes: false,
+    copies: false,
+    one: 0x00,
+    other: 0x20,
+    option: 16,
+    page: false,
+};
+
+const PARAMETER_PAGE: FirstRow = FirstRow {
+    byte: 0xec,
+    cycles: 1,
+    second: 0x00,
+    or: 0x00,
+    looks: Looks::Nothing,
+    then: Then::ParameterPage,
+    ready: false,
+    waits: Waits::All,
+    clears: false,
+    closes: false,
+    copies: false,
+    one: 0x00,
+    other: 0x00,
+    option: 16,
+    page: false,
+};
+
+const GET_FEATURES: FirstRow = FirstRow {
+    byte: 0xee,
+    cycles: 1,
+    second: 0x00,
+    or: 0x00,
+    looks: Looks::Nothing,
+    then: Then::FeatureOut,
+    ready: false,
+    waits: Waits::All,
+    clears: false,
+    closes: false,
+    copies: false,
+    one: 0x01,
+    other: 0x01,
+    option: 2,
+    page: false,
+};
+
+const SET_FEATURES: FirstRow = FirstRow {
+    byte: 0xef,
+    cycles: 1,
+    second: 0x00,
+    or: 0x00,
+    looks: Looks::Nothing,
+    then: Then::FeatureIn,
+    ready: false,
+    waits: Waits::All,
+    clears: false,
+    closes: false,
+    copies: false,
+    one: 0x01,
+    other: 0x01,
+    option: 2,
+    page: false,
+};
+
+const COPYBACK_PROGRAM: FirstRow = FirstRow {
+    byte: 0x85,
+    cycles: 5,
+    second: 0x10,
+    or: 0x00,
+    looks: Looks::Page,
+    then: Then::Data,
+    ready: true,
+    waits: Waits::Nobody,
+    clears: false,
+    closes: false,
+    copies: true,
+    one: 0x00,
+    other: 0x00,
+    option: 4,
+    page: false,
+};
+
+const CHANGE_COLUMN_IN_PAGE: FirstRow = FirstRow {
+    byte: 0x05,
+    cycles: 2,
+    second: 0xe0,
+    or: 0x00,
+    looks: Looks::Nothing,
+    then: Then::Second,
+    ready: false,
+    waits: Waits::Nobody,
+    clears: false,
+    closes: false,
+    copies: false,
+    one: 0x00,
+    other: 0x00,
+    option: 16,
+    page: true,
+};
+
+// The list of first commands.
 const FIRSTS: [FirstRow; 13] = [
-    FirstRow {
-        byte: 0x00,
-        cycles: 5,
-        second: 0x30,
-        or: 0x35,
-        looks: Looks::Page,
-        then: Then::Second,
-        ready: true,
-        waits: Waits::Nobody,
-        clears: false,
-        closes: false,
-        copies: false,
-        one: 0x00,
-        other: 0x00,
-        option: 16,
-        page: false,
-    },
-    FirstRow {
-        byte: 0x05,
-        cycles: 2,
-        second: 0xe0,
-        or: 0x00,
-        looks: Looks::Nothing,
-        then: Then::Second,
-        ready: true,
-        waits: Waits::Nobody,
-        clears: false,
-        closes: false,
-        copies: false,
-        one: 0x00,
-        other: 0x00,
-        option: 16,
-        page: false,
-    },
-    FirstRow {
-        byte: 0x06,
-        cycles: 5,
-        second: 0xe0,
-        or: 0x00,
-        looks: Looks::Lun,
-        then: Then::Second,
-        ready: true,
-        waits: Waits::Nobody,
-        clears: false,
-        closes: false,
-        copies: false,
-        one: 0x00,
-        other: 0x00,
-        option: 6,
-        page: false,
-    },
-    FirstRow {
-        byte: 0x60,
-        cycles: 3,
-        second: 0xd0,
-        or: 0x00,
-        looks: Looks::Block,
-        then: Then::Second,
-        ready: true,
-        waits: Waits::Nobody,
-        clears: false,
-        closes: false,
-        copies: false,
-        one: 0x00,
-        other: 0x00,
-        option: 16,
-        page: false,
-    },
-    FirstRow {
-        byte: 0x70,
-        cycles: 0,
-        second: 0x00,
-        or: 0x00,
-        looks: Looks::Nothing,
-        then: Then::Status,
-        ready: false,
-        waits: Waits::Others,
-        clears: false,
-        closes: false,
-        copies: false,
-        one: 0x00,
-        other: 0x00,
-        option: 16,
-        page: false,
-    },
-    FirstRow {
-        byte: 0x78,
-        cycles: 3,
-        second: 0x00,
-        or: 0x00,
-        looks: Looks::Lun,
-        then: Then::Status,
-        ready: false,
-        waits: Waits::Nobody,
-        clears: false,
-        closes: false,
-        copies: false,
-        one: 0x00,
-        other: 0x00,
-        option: 3,
-        page: false,
-    },
-    FirstRow {
-        byte: 0x80,
-        cycles: 5,
-        second: 0x10,
-        or: 0x00,
-        looks: Looks::Page,
-        then: Then::Data,
-        ready: true,
-        waits: Waits::Nobody,
-        clears: true,
-        closes: true,
-        copies: false,
-        one: 0x00,
-        other: 0x00,
-        option: 16,
-        page: false,
-    },
-    FirstRow {
-        byte: 0x90,
-        cycles: 1,
-        second: 0x00,
-        or: 0x00,
-        looks: Looks::Nothing,
-        then: Then::Id,
-        ready: false,
-        waits: Waits::All,
-        clears: false,
-        closes: false,
-        copies: false,
-        one: 0x00,
-        other: 0x20,
-        option: 16,
-        page: false,
-    },
-    FirstRow {
-        byte: 0xec,
-        cycles: 1,
-        second: 0x00,
-        or: 0x00,
-        looks: Looks::Nothing,
-        then: Then::ParameterPage,
-        ready: false,
-        waits: Waits::All,
-        clears: false,
-        closes: false,
-        copies: false,
-        one: 0x00,
-        other: 0x00,
-        option: 16,
-        page: false,
-    },
-    FirstRow {
-        byte: 0xee,
-        cycles: 1,
-        second: 0x00,
-        or: 0x00,
-        looks: Looks::Nothing,
-        then: Then::FeatureOut,
-        ready: false,
-        waits: Waits::All,
-        clears: false,
-        closes: false,
-        copies: false,
-        one: 0x01,
-        other: 0x01,
-        option: 2,
-        page: false,
-    },
-    FirstRow {
-        byte: 0xef,
-        cycles: 1,
-        second: 0x00,
-        or: 0x00,
-        looks: Looks::Nothing,
-        then: Then::FeatureIn,
-        ready: false,
-        waits: Waits::All,
-        clears: false,
-        closes: false,
-        copies: false,
-        one: 0x01,
-        other: 0x01,
-        option: 2,
-        page: false,
-    },
-    FirstRow {
-        byte: 0x85,
-        cycles: 5,
-        second: 0x10,
-        or: 0x00,
-        looks: Looks::Page,
-        then: Then::Data,
-        ready: true,
-        waits: Waits::Nobody,
-        clears: false,
-        closes: false,
-        copies: true,
-        one: 0x00,
-        other: 0x00,
-        option: 4,
-        page: false,
-    },
-    FirstRow {
-        byte: 0x05,
-        cycles: 2,
-        second: 0xe0,
-        or: 0x00,
-        looks: Looks::Nothing,
-        then: Then::Second,
-        ready: false,
-        waits: Waits::Nobody,
-        clears: false,
-        closes: false,
-        copies: false,
-        one: 0x00,
-        other: 0x00,
-        option: 16,
-        page: true,
-    },
+    READ,
+    CHANGE_COLUMN,
+    CHANGE_COLUMN_ENHANCED,
+    ERASE,
+    STATUS,
+    STATUS_ENHANCED,
+    PROGRAM,
+    READ_ID,
+    PARAMETER_PAGE,
+    GET_FEATURES,
+    SET_FEATURES,
+    COPYBACK_PROGRAM,
+    CHANGE_COLUMN_IN_PAGE,
 ];
 
 // A first command, or none.
@@ -658,12 +682,34 @@ pub fn place_of(f: First) -> usize
     }
 }
 
-// The command's row of the list.
-pub fn row_of(f: First) -> FirstRow
+// The command's row of the list, by its place.
+pub fn listed(f: First) -> FirstRow
     ensures { λ r. ⌜ r ≡ rowOf f ⌝ }
 {
     let i = place_of(f);
     FIRSTS[i]
+}
+
+// The same row by the command's name. A list that is indexed is made anew at each look-up; of these arms the compiler makes
+// constants, which are looked up in a few instructions.
+pub fn row_of(f: First) -> FirstRow
+    ensures { λ r. ⌜ r ≡ rowOf f ⌝ }
+{
+    match f {
+        First::Read => READ,
+        First::ChangeColumn => CHANGE_COLUMN,
+        First::ChangeColumnEnhanced => CHANGE_COLUMN_ENHANCED,
+        First::Erase => ERASE,
+        First::Status => STATUS,
+        First::StatusEnhanced => STATUS_ENHANCED,
+        First::Program => PROGRAM,
+        First::ReadId => READ_ID,
+        First::ParameterPage => PARAMETER_PAGE,
+        First::GetFeatures => GET_FEATURES,
+        First::SetFeatures => SET_FEATURES,
+        First::CopybackProgram => COPYBACK_PROGRAM,
+        First::ChangeColumnInPage => CHANGE_COLUMN_IN_PAGE,
+    }
 }
 
 pub fn byte_of(f: First) -> u8
@@ -676,7 +722,7 @@ pub fn byte_of(f: First) -> u8
 pub fn cycles_of(f: First) -> u8
     ensures { λ r. ⌜ r ≡ cyclesOf f ⌝ }
 {
-    let row = row_of(f);
+    let row = listed(f);
     row.cycles
 }
 
@@ -765,14 +811,16 @@ pub fn knows_address(f: First, v: u8) -> bool
 pub fn takes_column(f: First) -> bool
     ensures { λ b. ⌜ b ≡ takesColumn f ⌝ }
 {
-    let n = cycles_of(f);
+    let row = row_of(f);
+    let n = row.cycles;
     (n == 2) | (n == 5)
 }
 
 pub fn takes_row(f: First) -> bool
     ensures { λ b. ⌜ b ≡ takesRow f ⌝ }
 {
-    let n = cycles_of(f);
+    let row = row_of(f);
+    let n = row.cycles;
     (n == 3) | (n == 5)
 }
 
@@ -867,68 +915,71 @@ pub struct SecondRow {
     pub option: u8,
 }
 
-const SECONDS: [SecondRow; 6] = [
-    SecondRow {
-        byte: 0x30,
-        starts: true,
-        guarded: false,
-        shows: true,
-        act: Act::Load,
-        opens: false,
-        closes: true,
-        option: 16,
-    },
-    SecondRow {
-        byte: 0xe0,
-        starts: false,
-        guarded: false,
-        shows: true,
-        act: Act::Nothing,
-        opens: false,
-        closes: false,
-        option: 16,
-    },
-    SecondRow {
-        byte: 0x10,
-        starts: true,
-        guarded: true,
-        shows: false,
-        act: Act::Program,
-        opens: false,
-        closes: false,
-        option: 16,
-    },
-    SecondRow {
-        byte: 0xd0,
-        starts: true,
-        guarded: true,
-        shows: false,
-        act: Act::Erase,
-        opens: false,
-        closes: true,
-        option: 16,
-    },
-    SecondRow {
-        byte: 0x85,
-        starts: false,
-        guarded: false,
-        shows: false,
-        act: Act::Move,
-        opens: false,
-        closes: false,
-        option: 16,
-    },
-    SecondRow {
-        byte: 0x35,
-        starts: true,
-        guarded: false,
-        shows: true,
-        act: Act::Load,
-        opens: true,
-        closes: false,
-        option: 4,
-    },
-];
+const START_READ: SecondRow = SecondRow {
+    byte: 0x30,
+    starts: true,
+    guarded: false,
+    shows: true,
+    act: Act::Load,
+    opens: false,
+    closes: true,
+    option: 16,
+};
+
+const START_OUTPUT: SecondRow = SecondRow {
+    byte: 0xe0,
+    starts: false,
+    guarded: false,
+    shows: true,
+    act: Act::Nothing,
+    opens: false,
+    closes: false,
+    option: 16,
+};
+
+const START_PROGRAM: SecondRow = SecondRow {
+    byte: 0x10,
+    starts: true,
+    guarded: true,
+    shows: false,
+    act: Act::Program,
+    opens: false,
+    closes: false,
+    option: 16,
+};
+
+const START_ERASE: SecondRow = SecondRow {
+    byte: 0xd0,
+    starts: true,
+    guarded: true,
+    shows: false,
+    act: Act::Erase,
+    opens: false,
+    closes: true,
+    option: 16,
+};
+
+const MOVE: SecondRow = SecondRow {
+    byte: 0x85,
+    starts: false,
+    guarded: false,
+    shows: false,
+    act: Act::Move,
+    opens: false,
+    closes: false,
+    option: 16,
+};
+
+const START_COPYBACK: SecondRow = SecondRow {
+    byte: 0x35,
+    starts: true,
+    guarded: false,
+    shows: true,
+    act: Act::Load,
+    opens: true,
+    closes: false,
+    option: 4,
+};
 
 // A second command, or none.
 pub enum SecondFound {
@@ -951,26 +1002,18 @@ pub fn second_of(v: u8) -> SecondFound
     }
 }
 
-// The place of a second command in the list.
-pub fn second_place(s: Second) -> usize
-    ensures { λ r. ⌜ r ≡ secondPlace s ⌝ }
-{
-    match s {
-        Second::StartRead => 0,
-        Second::StartOutput => 1,
-        Second::StartProgram => 2,
-        Second::StartErase => 3,
-        Second::Move => 4,
-        Second::StartCopyback => 5,
-    }
-}
-
 // The command's row of the list.
 pub fn second_row(s: Second) -> SecondRow
     ensures { λ r. ⌜ r ≡ secondRow s ⌝ }
 {
-    let i = second_place(s);
-    SECONDS[i]
+    match s {
+        Second::StartRead => START_READ,
+        Second::StartOutput => START_OUTPUT,
+        Second::StartProgram => START_PROGRAM,
+        Second::StartErase => START_ERASE,
+        Second::Move => MOVE,
+        Second::StartCopyback => START_COPYBACK,
+    }
 }
 
 // The part has the second command.

@@ -4,12 +4,12 @@ use borrow.Author.Needs.{needs}
 use Rattle.target.proofs.commands.cycles_of.Statement.{statement}
 use Rattle.target.proofs.commands.cycles_of.Tie as tie
 
-row-of-requires : tie.Need-row-of-requires
-row-of-requires c κs = search needs
+listed-requires : tie.Need-listed-requires
+listed-requires c κs = search needs
 
 returns : tie.Need-returns
 returns c =
-    rw (c .row-of .ensures)
+    rw (c .listed .ensures)
 
 pub cycles-of-spec : {M : Type 1} → statement M
-cycles-of-spec = tie.close (tie.spec row-of-requires returns)
+cycles-of-spec = tie.close (tie.spec listed-requires returns)
