@@ -186,6 +186,10 @@ fn on_part(asked: Asked, second: &[u8], third: &[u8], input: i32, out: &mut Pape
             &mut counts,
             &mut flags,
         ),
+        Asked::ExplainEach => {}
+        Asked::Test => {}
+        Asked::Dump => {}
+        Asked::Diff => {}
         Asked::Text => {}
         Asked::TextOn => {}
         Asked::Back => {}
@@ -226,6 +230,10 @@ fn has_part(asked: Asked) -> bool {
         Asked::NewFrom => true,
         Asked::Run => true,
         Asked::Explain => true,
+        Asked::ExplainEach => true,
+        Asked::Test => true,
+        Asked::Dump => true,
+        Asked::Diff => false,
         Asked::Text => false,
         Asked::TextOn => false,
         Asked::Back => false,
@@ -255,6 +263,10 @@ fn without_part(asked: Asked, second: &[u8], input: i32, out: &mut Paper) {
         Asked::NewFrom => {}
         Asked::Run => {}
         Asked::Explain => {}
+        Asked::ExplainEach => {}
+        Asked::Test => {}
+        Asked::Dump => {}
+        Asked::Diff => {}
         Asked::Text => from_text(no_shape(), input, out),
         Asked::TextOn => text_on(second, input, out),
         Asked::Back => to_text(input, out),
@@ -299,7 +311,7 @@ pub fn nib() {
     let a = argument(1, &mut first);
     let b = argument(2, &mut second);
     let c = argument(3, &mut third);
-    let asked = asked_of(os::arg_count(), &first[..a], &second[..b]);
+    let asked = asked_of(os::arg_count(), &first[..a], &second[..b], &third[..c]);
     act(
         asked,
         &second[..b],
