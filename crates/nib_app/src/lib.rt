@@ -1,5 +1,5 @@
 // nib, the bench at the command line: all of the program, so that it and the programs that try its commands are one call each. Each
-// command's own work stands in a crate of its own: nib_run, nib_demo, nib_page, nib_check, nib_translate, nib_jobs.
+// command's own work stands in a crate of its own: nib_run, nib_demo, nib_page, nib_check, nib_translate, nib_scripts, nib_jobs.
 pub mod known;
 
 use known::is_maker_s;
@@ -37,6 +37,7 @@ use nib_print::pen::count;
 use nib_print::pen::flush;
 use nib_print::pen::text;
 use nib_run::running::on_folder;
+use nib_scripts::test_folder;
 use nib_translate::texts::from_text;
 use nib_translate::texts::to_text;
 ghost use Rattle.io.specs.Counts.{Counts as Counted};
@@ -61,6 +62,11 @@ fn usage_files(out: &mut Paper, p: Pen) -> Pen {
         out,
         p,
         b"  nib explain DIR < TRACE    the same in words; the folder stays as it is\n",
+    );
+    let p = text(
+        out,
+        p,
+        b"  nib test DIR < TEXT        runs a text and what it expects, as: = 3c a5  ! 5  ok; stored if all held, status 3 if not\n",
     );
     let p = text(
         out,
@@ -187,7 +193,17 @@ fn on_part(asked: Asked, second: &[u8], third: &[u8], input: i32, out: &mut Pape
             &mut flags,
         ),
         Asked::ExplainEach => {}
-        Asked::Test => {}
+        Asked::Test => test_folder(
+            second,
+            may,
+            input,
+            out,
+            &mut page,
+            &mut array,
+            &mut registers,
+            &mut counts,
+            &mut flags,
+        ),
         Asked::Dump => {}
         Asked::Diff => {}
         Asked::Text => {}

@@ -266,7 +266,7 @@ fn stopped(t: Text, line: usize, word: &Last, said: Said) -> Step {
     }
 }
 
-pub fn step(t: Text, b: u8, word: &mut Last, data: &mut Data) -> Step {
+pub fn one_byte(t: Text, b: u8, word: &mut Last, data: &mut Data) -> Step {
     let r = t.reading;
     let s = t.spot;
     let g = t.geometry;
@@ -308,7 +308,7 @@ fn text_byte(
     if !t.going {
         return t;
     }
-    let s = step(t, b, word, data);
+    let s = one_byte(t, b, word, data);
     let t = s.text;
     let said = s.said;
     let job = s.job;
@@ -323,7 +323,7 @@ fn text_byte(
 }
 
 // The place after one of `n` places.
-fn place_after(i: usize, n: usize) -> usize
+pub fn place_after(i: usize, n: usize) -> usize
     requires { ⌜ i < n ⌝ }
     ensures { λ r. ⌜ r ≡ i + 1 ⌝ }
 {
