@@ -612,7 +612,15 @@ fn ran_whole(
     if s.half {
         let odd = [s.first];
         ran(
-            s, &odd, &mut given, part, page, array, registers, counts, flags,
+            s,
+            &odd,
+            &mut given,
+            part,
+            page,
+            array,
+            registers,
+            counts,
+            flags,
         )
     } else {
         s
@@ -715,7 +723,16 @@ fn whole_looked_at(
     flags: &Flags,
 ) -> bool {
     looked_at(
-        target, whole, n, out, part, page, array, registers, counts, flags,
+        target,
+        whole,
+        n,
+        out,
+        part,
+        page,
+        array,
+        registers,
+        counts,
+        flags,
     )
 }
 
@@ -745,7 +762,16 @@ fn run_script(
         return false;
     }
     whole_looked_at(
-        target, &whole, got.n, out, part, page, array, registers, counts, flags,
+        target,
+        &whole,
+        got.n,
+        out,
+        part,
+        page,
+        array,
+        registers,
+        counts,
+        flags,
     )
 }
 
@@ -782,7 +808,15 @@ pub fn test_folder(
         return;
     }
     let good = run_script(
-        target, input, out, part, page, array, registers, counts, flags,
+        target,
+        input,
+        out,
+        part,
+        page,
+        array,
+        registers,
+        counts,
+        flags,
     );
     if good & may.store {
         let l = part.lengths;

@@ -291,7 +291,11 @@ pub fn raw_said(w: Word) -> Said
 pub fn expected_said(w: Word) -> Said
     ensures { λ r. ⌜ r ≡ expectedSaid w ⌝ }
 {
-    pick_said(is_byte(w), Said::Expected(w.hex), Said::Wrong(Wrong::NotByte))
+    pick_said(
+        is_byte(w),
+        Said::Expected(w.hex),
+        Said::Wrong(Wrong::NotByte),
+    )
 }
 
 pub fn refusal_said(w: Word) -> Said
