@@ -49,10 +49,11 @@ use nib_translate::texts::Room;
 use nib_translate::texts::Text;
 use nib_translate::texts::is_good;
 use nib_translate::texts::one_byte;
-use nib_translate::texts::place_after;
 use nib_translate::texts::text_begun;
 use power::PowerAnswer;
 use target::Target;
+ghost use mathlib.Core.Path.{_≡_};
+ghost use Prim.Native.Nat.{_+_, _<_};
 
 // As much text as is held, beside a part's buffers.
 pub type Whole = [u8; 262144];
@@ -261,6 +262,14 @@ fn ran(
         flags,
     );
     answered(s, target, room[0], room[1], given)
+}
+
+// The place after one of `n` places.
+fn place_after(i: usize, n: usize) -> usize
+    requires { ⌜ i < n ⌝ }
+    ensures { λ r. ⌜ r ≡ i + 1 ⌝ }
+{
+    i + 1
 }
 
 // A byte of the trace.
