@@ -185,11 +185,11 @@ class Library(unittest.TestCase):
     def test_what_is_said(self) -> None:
         rule = {n: "refused %d: %s" % (n, nibtoggle.RULES[n]) for n in nibtoggle.RULES}
         for text, why in (
-                ("c 77 ok", "expected ok; event 1 was %s" % rule[1]), ("c ff c 77 c 78 ok", "expected ok; event 2 was %s" % rule[1]),
+                ("c 77 ok", "expected ok; event 1 was %s" % rule[2]), ("c ff c 77 c 78 ok", "expected ok; event 2 was %s" % rule[1]),
                 ("c ff ! 5", "expected refusal 5; event 1 was accepted"), ("! 5", "expected refusal 5; no event came"),
-                ("c ff ok ! 5", "expected refusal 5; no event came"), ("c 77 ! 5", "expected refusal 5; event 1 was %s" % rule[1]),
+                ("c ff ok ! 5", "expected refusal 5; no event came"), ("c 77 ! 5", "expected refusal 5; event 1 was %s" % rule[2]),
                 ("c ff c 77 c 77 ! 1", "expected refusal 1 of the last event alone; event 2 was %s" % rule[1]),
-                ("c 77 c ff ! 1", "expected refusal 1 of the last event alone; event 1 was %s" % rule[1]),
+                ("c 77 c ff ! 2", "expected refusal 2 of the last event alone; event 1 was %s" % rule[2]),
                 ("c ff c 90 a 00 o 1 ! 3", "expected refusal 3; event 4 gave 2Ch"),
                 ("c ff c 90 a 00 o 2 = 2c 68", None), ("c ff c 90 a 00 o 2 = 2c", "expected bytes 2Ch; 2Ch 68h came"),
                 ("c ff c 90 a 00 o 2 = 2c 68 00", "expected bytes 2Ch 68h 00h; 2Ch 68h came"), ("c ff = 00", "expected bytes 00h; no byte came"),
@@ -251,8 +251,8 @@ class Command(unittest.TestCase):
                     "nibtoggle: standard input, line 7, place 6: expected ok; event 24 was refused 1: %s\n"
                     "nibtoggle: 2 of 7 expectations failed; nothing was stored\n" % nibtoggle.RULES[1])),
                 ("c 77 ok", "1 event, 1 expectation\n", (
-                    "nibtoggle: standard input, line 1, place 6: expected ok; event 1 was refused 1: %s\n"
-                    "nibtoggle: 1 of 1 expectations failed; nothing was stored\n" % nibtoggle.RULES[1]))):
+                    "nibtoggle: standard input, line 1, place 6: expected ok; event 1 was refused 2: %s\n"
+                    "nibtoggle: 1 of 1 expectations failed; nothing was stored\n" % nibtoggle.RULES[2]))):
             self.assertEqual(self.call("test", "t1", given=given), (3, said, told))
             self.assertEqual(self.held(), before)
 
