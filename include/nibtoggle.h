@@ -561,14 +561,21 @@ enum nib_said {
     NIB_SAID_RECORD = 1,        /* value: the record's kind times 256, and its value */
     NIB_SAID_BYTE = 2,          /* value: a byte of the trace as it is */
     NIB_SAID_OUTS = 3,          /* value: so many data outs */
-    NIB_SAID_WRONG = 4,         /* value: why the word is bad, 1 to 12, for nib_say_wrong */
+    NIB_SAID_WRONG = 4,         /* value: why the word is bad, 1 to 14, for nib_say_wrong */
     NIB_SAID_LUN = 5,           /* a value of a job: its LUN, always the first; */
     NIB_SAID_BLOCK = 6,
     NIB_SAID_PAGE = 7,
     NIB_SAID_COLUMN = 8,
     NIB_SAID_COUNT = 9,         /* how many data outs; */
-    NIB_SAID_DATA = 10          /* a byte of a program */
+    NIB_SAID_DATA = 10,         /* a byte of a program */
+    NIB_SAID_OK = 11,           /* expected, and no part of the trace: nothing was refused; */
+    NIB_SAID_EXPECTED = 12,     /* value: a byte of the list that must have come; */
+    NIB_SAID_REFUSED = 13       /* value: the refusal that must have come */
 };
+
+/* 1 where a list of expected bytes ends with that byte, with what it says as the list's last; else 0. It means nothing
+ * where the word is bad. */
+uint8_t nib_text_listed(uint64_t state, uint8_t byte);
 
 /* What that byte adds, on a part: NIB_SAID_WRONG where it is a value that the part has not. columns is the page size,
  * P. A part of 2^24 rows at most, as every part within the limits is. */
@@ -614,6 +621,34 @@ size_t nib_say_line(const uint8_t *records, size_t records_length, size_t at, si
 
 /* Where the next line begins; `at` itself where the list has no record there. */
 size_t nib_line_next(const uint8_t *records, size_t records_length, size_t at);
+
+/* ---- What a script expects ----
+ *
+ * A text may say what must be answered: `= 3c a5`, `! 5`, `ok`. An expectation speaks of the events since the one
+ * before it, or since the text's beginning. What they were answered is a number, 0 where none has come: set it to 0
+ * after each expectation. With one byte of the text there come, in this order: what nib_text_said says, the job that
+ * ends, the list of expected bytes that ends (nib_text_listed), and NIB_SAID_OK. */
+
+/* What has been answered after one event more: its number in the script, counted from 1, and its reply's two bytes. */
+uint64_t nib_expect_next(uint64_t state, size_t number, uint8_t first, uint8_t second);
+
+/* 1 where the expectation holds, else 0. ok: none of the events was refused. A refusal: the last of them was refused
+ * so, and no other was. Bytes: none was refused, and the bytes that their data outs gave are just those wanted. */
+uint8_t nib_expect_ok(uint64_t state);
+uint8_t nib_expect_refusal(uint64_t state, uint8_t refusal);
+uint8_t nib_expect_bytes(uint64_t state, const uint8_t *given, size_t given_length, const uint8_t *wanted,
+                         size_t wanted_length);
+
+/* What was expected and what came instead, in words, where it does not hold; last is the number of the last event. Of a
+ * list its first 16 bytes are told. 256 bytes are room for each. */
+size_t nib_say_not_ok(uint64_t state, uint8_t *out, size_t length);
+size_t nib_say_not_refusal(uint64_t state, size_t last, uint8_t refusal, uint8_t *out, size_t length);
+size_t nib_say_not_bytes(uint64_t state, const uint8_t *given, size_t given_length, const uint8_t *wanted,
+                         size_t wanted_length, uint8_t *out, size_t length);
+
+/* How a script went: `12 events, 5 expectations`, and `2 of 5 expectations failed; nothing was stored`. */
+size_t nib_say_script(size_t events, size_t expected, uint8_t *out, size_t length);
+size_t nib_say_failed(size_t failed, size_t expected, uint8_t *out, size_t length);
 
 #ifdef __cplusplus
 }

@@ -18,6 +18,7 @@ from .pages import PAGE_RULES, BrokenRule, NoGoodCopy, PageCheck, WrongLength, c
 from .part import Part, crc, parameter_page
 from .parts import PARTS, KnownPart
 from .replies import RULES, NotReady, Refused, Replies, Reply, Status
+from .scripts import ExpectationFailed, Failure, Outcome
 from .text import BadWord, records_of, text_of
 
 #: As VERSION has it; tools/version sets it everywhere.
@@ -27,6 +28,8 @@ __all__ = [
     "BadWord",
     "Bench",
     "BrokenRule",
+    "ExpectationFailed",
+    "Failure",
     "FolderError",
     "Job",
     "KnownPart",
@@ -34,6 +37,7 @@ __all__ = [
     "LibraryNotFound",
     "NoGoodCopy",
     "NotReady",
+    "Outcome",
     "PAGE_RULES",
     "PARTS",
     "PageCheck",

@@ -101,6 +101,7 @@ class Library:
         self.text_begins = self._typed("nib_text_begins", _byte, state + byte)
         sizes: _Types = [_size, _size, _size, ctypes.c_uint16]
         self.text_job = self._typed("nib_text_job", _byte, state + byte)
+        self.text_listed = self._typed("nib_text_listed", _byte, state + byte)
         self.text_on_part = self._typed("nib_text_on_part", ctypes.c_uint64, state + sizes)
         self.row_number = self._typed("nib_row_number", _size, [_size, _size, _size, _size, _size, _size])
         self.line_next = self._typed("nib_line_next", _size, room + [_size])
@@ -112,6 +113,22 @@ class Library:
         self.say_reply = self._typed("nib_say_reply", _size, 2 * byte + [_size] + room)
         self.say_rule = self._typed("nib_say_rule", _size, byte + room)
         self.say_wrong = self._typed("nib_say_wrong", _size, byte + room)
+        self._expectations()
+
+    def _expectations(self) -> None:
+        """What a script expects: whether it holds, and the words of what failed."""
+        room: _Types = [ctypes.c_char_p, _size]
+        state: _Types = [ctypes.c_uint64]
+        byte: _Types = [_byte]
+        self.expect_next = self._typed("nib_expect_next", ctypes.c_uint64, state + [_size] + 2 * byte)
+        self.expect_ok = self._typed("nib_expect_ok", _byte, state)
+        self.expect_refusal = self._typed("nib_expect_refusal", _byte, state + byte)
+        self.expect_bytes = self._typed("nib_expect_bytes", _byte, state + 2 * room)
+        self.say_not_ok = self._typed("nib_say_not_ok", _size, state + room)
+        self.say_not_refusal = self._typed("nib_say_not_refusal", _size, state + [_size] + byte + room)
+        self.say_not_bytes = self._typed("nib_say_not_bytes", _size, state + 3 * room)
+        self.say_script = self._typed("nib_say_script", _size, [_size, _size] + room)
+        self.say_failed = self._typed("nib_say_failed", _size, [_size, _size] + room)
 
     def _typed(self, name: str, result: Type["ctypes._CData"], arguments: _Types) -> Any:
         function = getattr(self._loaded, name)

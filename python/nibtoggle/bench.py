@@ -10,7 +10,7 @@ from pathlib import Path
 from types import TracebackType
 from typing import Callable, Iterable, List, NamedTuple, Optional, Tuple, Type, Union
 
-from . import checks, folder, jobs, parts
+from . import checks, folder, jobs, parts, scripts
 from ._library import Library, Target
 from .folder import LARGE, Buffer
 from .part import OPTIONAL_STATUS_78H, PAGE_LENGTH, Part, fields_outside, parameter_page
@@ -279,6 +279,11 @@ class Bench:
     def events(self, events: Iterable[Tuple[int, int]]) -> Replies:
         """Events as (kind, value), run as one trace."""
         return self.trace(b"".join(bytes((checks.byte("kind", kind), checks.byte("value", value))) for kind, value in events))
+
+    def script(self, text: Union[str, bytes], name: str = "text") -> scripts.Outcome:
+        """A text with expectations (`= 3c a5`, `! 5`, `ok`) and whole jobs' words, run on this bench. One that failed raises
+        ExpectationFailed at the script's end; a bad word raises BadWord, and nothing is run."""
+        return scripts.check(self, text, name)
 
     def rest(self) -> Rest:
         """The unread rest of the output as a part of the registers or of the parameter bytes, in place; empty where there is none."""

@@ -10,7 +10,7 @@ import warnings
 from pathlib import Path
 from typing import BinaryIO, Callable, Dict, Iterator, NoReturn, Optional, Sequence, TextIO, Tuple, Union
 
-from . import folder, jobs, parts, text
+from . import folder, jobs, parts, scripts, text
 from ._library import Library
 from .bench import Bench, make_folder, page_named, page_refusal
 from .part import FIELDS, PAGE_LENGTH, Part, crc, fields_outside
@@ -23,6 +23,7 @@ USAGE = """\
   nibtoggle parts                  the parts that have a name
   nibtoggle run DIR < TRACE        replies on standard output; the folder is brought up to date
   nibtoggle explain DIR < TRACE    the same in words; the folder stays as it is
+  nibtoggle test DIR < TEXT        runs a text and what it expects, as: = 3c a5  ! 5  ok; stored if all held, status 3 if not
   nibtoggle page FILE or DIR       what a parameter page says, and power-on's answer; of a folder its blank blocks too
   nibtoggle dump DIR LUN BLOCK PAGE   a page of the array; the folder stays as it is
   nibtoggle diff DIR DIR           where two parts differ; status 3 if they do
@@ -152,6 +153,25 @@ def run(words: Sequence[str], out: TextIO) -> int:
         for records in _input():
             replies.write(bench.trace(records).raw)
         replies.flush()
+        bench.save()
+    finally:
+        bench.close()
+    return OK
+
+
+def tested(words: Sequence[str], out: TextIO) -> int:
+    bench = _open(words[0])
+    library = Library.any()
+    try:
+        outcome = scripts.run(bench, sys.stdin.buffer.read(), "standard input")
+        for failure in outcome.failures:
+            print("%s: %s" % (NAME, failure), file=sys.stderr)
+        out.write(library.words(library.say_script, outcome.events, outcome.expectations) + "\n")
+        out.flush()
+        if not outcome.held:
+            failed = library.words(library.say_failed, len(outcome.failures), outcome.expectations)
+            print("%s: %s" % (NAME, failed), file=sys.stderr)
+            return NOT_AS_EXPECTED
         bench.save()
     finally:
         bench.close()
@@ -307,8 +327,8 @@ def helped(words: Sequence[str], out: TextIO) -> int:
 Command = Callable[[Sequence[str], TextIO], int]
 #: Each command, and how many words may come after it.
 COMMANDS: Dict[str, Tuple[Command, Tuple[int, ...]]] = {
-    "new": (new, (1, 2)), "parts": (known, (0,)), "run": (run, (1,)), "explain": (explain, (1,)), "page": (page, (1,)),
-    "dump": (dump, (4,)), "diff": (diff, (2,)), "text": (text_or_back, (0, 1)), "jobs": (jobs_told, (0, 1)),
+    "new": (new, (1, 2)), "parts": (known, (0,)), "run": (run, (1,)), "explain": (explain, (1,)), "test": (tested, (1,)),
+    "page": (page, (1,)), "dump": (dump, (4,)), "diff": (diff, (2,)), "text": (text_or_back, (0, 1)), "jobs": (jobs_told, (0, 1)),
     "version": (version, (0,)), "help": (helped, (0,)), "--help": (helped, (0,)), "-h": (helped, (0,)), "--version": (version, (0,)),
 }
 

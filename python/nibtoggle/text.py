@@ -2,15 +2,15 @@
 bytes to it and gathers what it says."""
 from __future__ import annotations
 
-from typing import Iterator, List, Optional, Tuple, Type, Union
+from typing import Iterator, List, NamedTuple, Optional, Tuple, Type, Union
 
 from . import jobs
 from ._library import Library
 from .part import Part
 from .replies import DATA_OUT
 
-#: What a byte of text adds to the trace, as `nib_text_said` numbers it; the last six are a job's.
-_RECORD, _BYTE, _OUTS, _WRONG, _LUN, _BLOCK, _PAGE, _COLUMN, _COUNT, _DATA = range(1, 11)
+#: What a byte of text adds to the trace, as `nib_text_said` numbers it: from _LUN on a job's values, from _OK on expectations.
+_RECORD, _BYTE, _OUTS, _WRONG, _LUN, _BLOCK, _PAGE, _COLUMN, _COUNT, _DATA, _OK, _EXPECTED, _REFUSED = range(1, 14)
 #: Where a text begins that is about a part.
 _WITH_PART = 1 << 45
 
@@ -30,33 +30,65 @@ def records_of(text: Union[str, bytes], name: str = "text", library: Optional[Li
     """Text to trace. A word that is wrong raises BadWord, and there is no trace at all: none is to be run in part.
 
     With a part the text may have words for whole jobs, as `program 1 5 3 0 3c a5`: LUN, block, page, column and bytes.
+    Expectations are left out: they are no records.
     """
+    return b"".join(step for step in steps_of(text, name, library, part) if isinstance(step, bytes))
+
+
+class Expectation(NamedTuple):
+    """What a script expects at a word, whose line and place count from 1: these bytes, or this refusal, or else `ok`."""
+
+    line: int
+    place: int
+    wanted: Optional[bytes] = None
+    refusal: Optional[int] = None
+
+
+def steps_of(text: Union[str, bytes], name: str = "text", library: Optional[Library] = None,
+             part: Optional[Part] = None) -> Iterator[Union[bytes, Expectation]]:
+    """A text in steps: bytes of the trace, and the expectations between them. A wrong word raises BadWord where it is reached: who runs
+    the steps takes all of them first."""
     said = library if library is not None else Library.found()
     whole = text.encode("utf-8") if isinstance(text, str) else text
-    trace: List[bytes] = []
     job = _OpenJob(said, part) if part is not None else None
     state, start = _WITH_PART if job else 0, 0
+    line, line_start = 1, 0
+    here = first = (1, 1)
+    wanted = bytearray()
     for at, byte in enumerate(whole + b"\n"):
         if said.text_begins(state, byte):
-            start = at
+            start, here = at, (line, at - line_start + 1)
         added: int = said.text_said(state, byte)
+        what = value = 0
         if added:
             added = job.on_part(added) if job else added
             what, value = added >> 16, added & 0xFFFF
-            if what == _RECORD:
-                trace.append(value.to_bytes(2, "big"))
-            elif what == _BYTE:
-                trace.append(bytes((value,)))
-            elif what == _OUTS:
-                trace.append(bytes((DATA_OUT, 0)) * value)
-            elif what == _WRONG:
-                raise _bad_word(said, name, whole, start, at, value)
-            elif job:
-                job.take(what, value)
-        if job:
-            trace.append(job.whole(said.text_job(state, byte)))
+        if what == _RECORD:
+            yield value.to_bytes(2, "big")
+        elif what == _BYTE:
+            yield bytes((value,))
+        elif what == _OUTS:
+            yield bytes((DATA_OUT, 0)) * value
+        elif what == _WRONG:
+            raise _bad_word(said, name, whole, start, at, value)
+        elif what == _EXPECTED:
+            first = first if wanted else here
+            wanted.append(value)
+        elif what == _REFUSED:
+            yield Expectation(*here, refusal=value)
+        elif job and _LUN <= what <= _DATA:
+            job.take(what, value)
+        records = job.whole(said.text_job(state, byte)) if job else b""
+        if records:
+            yield records
+        if wanted and said.text_listed(state, byte):
+            yield Expectation(*first, wanted=bytes(wanted))
+            wanted.clear()
+        if what == _OK:                     # after the job and the list that end with the byte
+            yield Expectation(*here)
+        if byte == 10:
+            line, line_start = line + 1, at + 1
         state = said.text_next(state, byte)
-    return b"".join(trace)
 
 
 class _OpenJob:

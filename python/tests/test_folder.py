@@ -271,7 +271,7 @@ class Commands(Tried):
 
     def test_a_bad_text_gives_no_trace(self) -> None:
         for given, told in ((b"c ff\nc zz\n", "line 2, place 3: 'zz': not two hex digits"), (b"c 80 f", "line 1, place 6: 'f': a letter with no value"),
-                            (b"c f\n", "line 1, place 3: 'f': a letter or a job's word, where the letter before it wants a value"), (b"80", "no letter of")):
+                            (b"c f\n", "line 1, place 3: 'f': a letter, a job's word or ok, where the letter before it wants a value"), (b"80", "no letter of")):
             status, said, error = self.call("text", given=given)
             self.assertEqual((status, said), (1, b""))
             self.assertIn(told, error)

@@ -191,7 +191,7 @@ class Words(unittest.TestCase):
             ("program 0 0 0 0 3", 1, 17, "3", "not two hex digits"), ("program 0 0 0 0 100", 1, 17, "100", "not two hex digits"),
             ("erase 0x0 1", 1, 7, "0x0", "not a decimal number, or too large"), ("status 0 65536", 1, 10, "65536", "not a decimal number, or too large"),
             ("erase -1 0", 1, 7, "-1", "not a decimal number, or too large"),
-            ("c erase 1 5", 1, 3, "erase", "a letter or a job's word, where the letter before it wants a value"), ("Erase 1 5", 1, 1, "Erase", "no letter of c a d o f p x, and no job's word"),
+            ("c erase 1 5", 1, 3, "erase", "a letter, a job's word or ok, where the letter before it wants a value"), ("Erase 1 5", 1, 1, "Erase", "no letter of c a d o f p x = ! and no job's word"),
             ("erases 1 5", 1, 1, "erases", "no letter"), ("readout 1 0 1", 1, 1, "readout", "no letter"), ("reads", 1, 1, "reads", "no letter"),
             ("rea 1", 1, 1, "rea", "no letter"), ("read-outprogram 1", 1, 1, "read-outprogram", "no letter"),
             ("read-out\0program 0 0 0 0", 1, 1, "read-out.program", "no letter"),

@@ -17,7 +17,8 @@ sys.path[:0] = [str(ROOT / "python"), str(ROOT / "python" / "tests")]
 
 import nibtoggle  # noqa: E402
 import test_job_words  # noqa: E402
-from nibtoggle import Bench, parameter_page, records_of, text_of  # noqa: E402
+import test_scripts  # noqa: E402
+from nibtoggle import Bench, parameter_page, records_of, scripts, text_of  # noqa: E402
 from nibtoggle.cli import explained  # noqa: E402
 from nibtoggle.jobs import told  # noqa: E402
 from nibtoggle.part import Part  # noqa: E402
@@ -308,7 +309,7 @@ class Errors(Nib):
             self.assertEqual(held(self.part), before)
 
     def test_words_that_are_none(self) -> None:
-        for text, told in ((b"c zz", "place 3: 'zz': not two hex digits"), (b"80", "place 1: '80': no letter of c a d o f p x, and no job's word"),
+        for text, told in ((b"c zz", "place 3: 'zz': not two hex digits"), (b"80", "place 1: '80': no letter of c a d o f p x = ! and no job's word"),
                            (b"c", "place 1: 'c': a letter with no value"), (b"f 256", "place 3: '256': not a decimal number, or too large"),
                            (b"o 65536", "place 3: '65536': not a decimal number, or too large"), (b"c 800", "place 3: '800': not two"),
                            (b"o -1", "place 3: '-1': not a decimal"), (b"x 7", "place 3: '7': not two hex digits")):
@@ -355,9 +356,9 @@ class Defects(Nib):
                          {n: contents for n, (contents, _) in before.items()})
 
     def test_a_letter_where_a_value_is_wanted(self) -> None:
-        for given, told in ((b"c f\n", "place 3: 'f': a letter or a job's word, where the letter before it wants a value; "
+        for given, told in ((b"c f\n", "place 3: 'f': a letter, a job's word or ok, where the letter before it wants a value; "
                                       "a byte has two hex digits"),
-                            (b"c f 1\n", "place 3: 'f': a letter or a job's word, where"), (b"c 80 f\n", "place 6: 'f': a letter with no value"),
+                            (b"c f 1\n", "place 3: 'f': a letter, a job's word or ok, where"), (b"c 80 f\n", "place 6: 'f': a letter with no value"),
                             (b"c\n", "place 1: 'c': a letter with no value")):
             error = self.nib("text", given=given)[1]
             self.assertIn(told, error)
@@ -469,12 +470,102 @@ class Jobs(Nib):
         self.assertIn("standard output: No space left on device", self.nib("jobs", "t1", given=self.trace, fail="out:1:%d" % errno.ENOSPC)[1])
 
 
+class Scripts(Nib):
+    """nib test: what holds is stored, and nothing else is."""
+
+    def setUp(self) -> None:
+        super().setUp()
+        self.good("new", "t1")
+
+    def tried(self, text: bytes) -> Tuple[bytes, str]:
+        """What nib says of a script; the folder is then as the library leaves a copy of it, or as it was."""
+        before = held(self.part)
+        with Bench.open(self.part) as bench:
+            outcome = scripts.run(bench, text, "standard input")
+            left = {"array": bytes(bench.array), "counts": bytes(bench.counts), "registers": bytes(bench.registers)}
+        said, error = self.nib("test", "t1", given=text)
+        due = "".join("nib: %s\n" % failure for failure in outcome.failures)
+        if outcome.failures:
+            due += "nib: %d of %d expectations failed; nothing was stored\n" % (len(outcome.failures), outcome.expectations)
+            self.assertEqual(held(self.part), before)
+        else:
+            after = {name: contents for name, (contents, _) in held(self.part).items()}
+            self.assertEqual(after, {**{name: contents for name, (contents, _) in before.items()}, **left})
+        self.assertEqual(error, due)
+        self.assertEqual(said.decode(), "%d event%s, %d expectation%s\n" % (
+            outcome.events, "" if outcome.events == 1 else "s", outcome.expectations, "" if outcome.expectations == 1 else "s"))
+        return said, error
+
+    def test_what_holds_and_what_fails(self) -> None:
+        for text in (test_scripts.HELD, "", "ok", "! 1", "= 00", "c ff = 00\nok\n! 5", "c ff program 0 0 0 0 00 f 0 ok", "c ff program 0 1 0 0 00 f 0 ! 1",
+                     "c ff c 77 c 77 ! 1", "c ff ok c ec a 00 o 20 = " + "4f " * 20, "c ff x 00 ok x ff ok x 07", "c ff read-out 1 0 3 = ff ff ff"):
+            self.tried(text.encode())
+        self.assertEqual((self.part / "array").read_bytes()[:1], b"\0")
+
+    def test_drawn_scripts(self) -> None:
+        draw = random.Random(6)
+        for _ in range(40):
+            self.tried(test_scripts.some_script(draw).encode())
+
+    def test_a_bad_word_runs_nothing(self) -> None:
+        before = held(self.part)
+        for text, told in ((b"ok 1", "place 4: '1': a value after ok, which takes none"), (b"! 0", "place 3: '0': not the number of a refusal"),
+                           (b"= 3", "place 3: '3': not two hex digits"), (b"=", "place 1: '=': a letter with no value"), (b"OK", "place 1: 'OK': no letter of"),
+                           (b"program 2 0 0 0 ok", "place 9: '2': the part has no such LUN"), (b"! c 80", "place 3: 'c': a letter, a job's word or ok")):
+            said, error = self.nib("test", "t1", given=b"c ff program 0 0 0 0 00 f 0 ok\n" + text)
+            self.assertEqual(said, b"")
+            self.assertTrue(error.startswith("nib: standard input, line 2, " + told), error)
+            self.assertEqual(held(self.part), before)
+        self.assertEqual(self.good("text", given=b"c ff ok ! 5 6 # x\n= 3c a5 c 70 ok"), b"\0\xff\0\x70")
+        self.assertEqual(self.good("text", "t1", given=b"erase 1 5 ok f 1 = 3c"), records_of("erase 1 5 f 1", part=test_job_words.T1))
+
+    def test_stores_all_or_nothing(self) -> None:
+        before = held(self.part)
+        given = test_scripts.HELD.encode()
+        for kind, times in (("fsync", 3), ("create", 3), ("write", 3), ("rename", 1), ("out", 1)):
+            for nth in range(1, times + 1):
+                _, error = self.nib("test", "t1", given=given, fail="%s:%d:%d" % (kind, nth, errno.ENOSPC))
+                self.assertIn(os.strerror(errno.ENOSPC), error, (kind, nth))
+                self.assertEqual(held(self.part), before, (kind, nth))
+        self.assertIn("Input/output error", self.nib("test", "t1", given=given, fail="read:8:%d" % errno.EIO)[1])
+        self.assertEqual(held(self.part), before)
+
+    def test_how_much_is_held(self) -> None:
+        front = b"c ff c ec a 00 o 256 = "
+        page = parameter_page()
+        text = front + page.hex(" ").encode() + b" ok"
+        self.assertIn(b"259 events, 2 expectations\n", self.good("test", "t1", given=text))
+        text += b" #" + b"x" * (262144 - len(text) - 2)
+        self.assertIn(b"259 events, 2 expectations\n", self.good("test", "t1", given=text))
+        before = held(self.part)
+        self.assertEqual(self.nib("test", "t1", given=text + b"x"), (b"", "nib: standard input: a script of more than 262144 bytes; "
+                                                                   "python3 -m nibtoggle test has no such limit\n"))
+        self.assertEqual(held(self.part), before)
+        # more bytes come than a list can have, and as many as one can have are expected
+        outs = b"c ff " + b"c ec a 00 o 768 " * 115
+        text = outs + b"= " + (page * 342).hex(" ").encode()[:3 * 86000 - 1]
+        self.assertLess(len(text), 262144)
+        said, error = self.nib("test", "t1", given=text)
+        self.assertIn("1 of 1 expectations failed", error)
+        self.assertEqual(held(self.part), before)
+        exact = outs + b"= " + (page * 345).hex(" ").encode()
+        with Bench.open(self.part) as bench:
+            self.assertTrue(scripts.run(bench, exact).held)
+
+    def test_a_part_that_is_not_powered(self) -> None:
+        (self.part / "counts").write_bytes(b"\xff" * 64)
+        before = held(self.part)
+        said, error = self.nib("test", "t1", given=b"c ff ! 13")
+        self.assertEqual((said, error), (b"", "nib: t1: power-on refused 25: %s\n" % nibtoggle.RULES[25]))
+        self.assertEqual(held(self.part), before)
+
+
 class Wrapped(Nib):
     """tools/nib: the same with an exit status."""
 
-    def wrapped(self, path: Path, *words: str) -> Tuple[int, str, str]:
+    def wrapped(self, path: Path, *words: str, given: str = "") -> Tuple[int, str, str]:
         environment = {name: value for name, value in os.environ.items() if name != "NIB_PROGRAM"}
-        done = subprocess.run([str(path), *words], cwd=self.folder, env=environment, stdin=subprocess.DEVNULL, stdout=subprocess.PIPE,
+        done = subprocess.run([str(path), *words], cwd=self.folder, env=environment, input=given, stdout=subprocess.PIPE,
                               stderr=subprocess.PIPE, text=True)
         return done.returncode, done.stdout, done.stderr
 
@@ -485,6 +576,17 @@ class Wrapped(Nib):
             self.assertEqual(self.wrapped(nib, "version"), (0, "nib %s\n" % nibtoggle.__version__, ""))
             self.assertEqual(self.wrapped(nib, "page", "none")[0], 1)
             self.assertEqual(self.wrapped(nib, "nonsense")[0], 2)
+
+    def test_an_expectation_that_failed(self) -> None:
+        nib = ROOT / "tools" / "nib"
+        self.assertEqual(self.wrapped(nib, "new", "t1")[0], 0)
+        self.assertEqual(self.wrapped(nib, "test", "t1", given="c ff ok"), (0, "1 event, 1 expectation\n", ""))
+        self.assertEqual(self.wrapped(nib, "test", "t1", given="c ff ! 5"), (
+            3, "1 event, 1 expectation\n", "nib: standard input, line 1, place 8: expected refusal 5; event 1 was accepted\n"
+            "nib: 1 of 1 expectations failed; nothing was stored\n"))
+        self.assertEqual(self.wrapped(nib, "test", "t1", given="ok 1")[0], 1)
+        self.assertEqual(self.wrapped(nib, "test", "none", given="ok")[0], 1)
+        self.assertEqual(self.wrapped(nib, "test")[0], 2)
 
     def test_a_nib_that_is_not_built(self) -> None:
         (self.folder / "tools").mkdir()

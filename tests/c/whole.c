@@ -780,6 +780,43 @@ static void job_words(void)
     same("far past the end", nib_line_next(due, sizeof due, SIZE_MAX), SIZE_MAX);
 }
 
+/* A script's expectations: what holds, what is said of what does not, and where a list ends. */
+static void expectations(void)
+{
+    static const char text[] = "= 3c a5 ok\n! 5";
+    static const uint8_t given[] = {0x3C, 0xA5}, wanted[] = {0x3C, 0xFF};
+    static const char due[] = "expected bytes 3Ch FFh; 3Ch A5h came", ends[] = "2 of 5 expectations failed; nothing was stored";
+    uint8_t out[256];
+    uint64_t state = 0, since = 0;
+    unsigned listed = 0, bytes = 0, oks = 0, refusals = 0;
+    for (size_t i = 0; i < sizeof text; i++) {
+        uint8_t byte = (uint8_t)(text[i] ? text[i] : '\n');
+        uint64_t said = nib_text_said(state, byte);
+        bytes += said >> 16 == NIB_SAID_EXPECTED;
+        oks += said >> 16 == NIB_SAID_OK;
+        refusals += said >> 16 == NIB_SAID_REFUSED && (said & 0xFFFF) == 5;
+        listed += nib_text_listed(state, byte);
+        state = nib_text_next(state, byte);
+    }
+    same("a script's words", bytes == 2 && oks == 1 && refusals == 1 && listed == 1, 1);
+    since = nib_expect_next(since, 1, 1, 0x3C);
+    since = nib_expect_next(since, 2, 1, 0xA5);
+    same("ok holds", nib_expect_ok(since), 1);
+    same("bytes hold", nib_expect_bytes(since, given, sizeof given, given, sizeof given), 1);
+    same("other bytes do not", nib_expect_bytes(since, given, sizeof given, wanted, sizeof wanted), 0);
+    same("nor fewer", nib_expect_bytes(since, given, sizeof given, given, 1), 0);
+    size_t n = nib_say_not_bytes(since, given, sizeof given, wanted, sizeof wanted, out, sizeof out);
+    same("what came instead", n == sizeof due - 1 && memcmp(out, due, n) == 0, 1);
+    since = nib_expect_next(since, 3, 2, 5);
+    same("a refusal holds", nib_expect_refusal(since, 5), 1);
+    same("another does not", nib_expect_refusal(since, 4), 0);
+    same("ok does not", nib_expect_ok(since), 0);
+    since = nib_expect_next(since, 4, 2, 5);
+    same("a second refusal", nib_expect_refusal(since, 5), 0);
+    n = nib_say_failed(2, 5, out, sizeof out);
+    same("how it went", n == sizeof ends - 1 && memcmp(out, ends, n) == 0, 1);
+}
+
 /* A command's words are these. */
 static int says(uint8_t value, uint8_t inside, const char *words)
 {
@@ -830,6 +867,7 @@ static void text_and_words(void)
     written += nib_back_end(state, out + written, sizeof out - written);
     same("a trace's text", written == sizeof back - 1 && memcmp(out, back, written) == 0, 1);
     job_words();
+    expectations();
     same("words that have no room", nib_say_event(0, NIB_COMMAND, 0x80, 0, out, 7), 7);
     same("words to nowhere", nib_say_event(0, NIB_COMMAND, 0x80, 0, NULL, 0), 0);
     same("35h", says(0x35, 1, "command 35h  start copyback read"), 1);

@@ -1,5 +1,5 @@
 #!/usr/bin/env python3
-"""The files of crates/test_nib/data, all but `script`, `job_script` and `look`'s words: the folders and pages, the scripts'
+"""The files of crates/test_nib/data, all but the scripts and `look`'s words: the folders and pages, the scripts'
 traces, those of worked sequences, and a long trace with its text, by a reader and a writer of their own.
 
     python3 tools/expect/nibs.py            # writes them anew

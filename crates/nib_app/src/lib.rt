@@ -1,5 +1,5 @@
 // nib, the bench at the command line: all of the program, so that it and the programs that try its commands are one call each. Each
-// command's own work stands in a crate of its own: nib_run, nib_demo, nib_page, nib_check, nib_translate, nib_jobs.
+// command's own work stands in a crate of its own: nib_run, nib_demo, nib_page, nib_check, nib_translate, nib_scripts, nib_jobs.
 pub mod known;
 
 use known::is_maker_s;
@@ -37,6 +37,7 @@ use nib_print::pen::count;
 use nib_print::pen::flush;
 use nib_print::pen::text;
 use nib_run::running::on_folder;
+use nib_scripts::test_folder;
 use nib_translate::texts::from_text;
 use nib_translate::texts::to_text;
 ghost use Rattle.io.specs.Counts.{Counts as Counted};
@@ -61,6 +62,11 @@ fn usage_files(out: &mut Paper, p: Pen) -> Pen {
         out,
         p,
         b"  nib explain DIR < TRACE    the same in words; the folder stays as it is\n",
+    );
+    let p = text(
+        out,
+        p,
+        b"  nib test DIR < TEXT        runs a text and what it expects, as: = 3c a5  ! 5  ok; stored if all held, status 3 if not\n",
     );
     let p = text(
         out,
@@ -186,6 +192,20 @@ fn on_part(asked: Asked, second: &[u8], third: &[u8], input: i32, out: &mut Pape
             &mut counts,
             &mut flags,
         ),
+        Asked::ExplainEach => {}
+        Asked::Test => test_folder(
+            second,
+            may,
+            input,
+            out,
+            &mut page,
+            &mut array,
+            &mut registers,
+            &mut counts,
+            &mut flags,
+        ),
+        Asked::Dump => {}
+        Asked::Diff => {}
         Asked::Text => {}
         Asked::TextOn => {}
         Asked::Back => {}
@@ -226,6 +246,10 @@ fn has_part(asked: Asked) -> bool {
         Asked::NewFrom => true,
         Asked::Run => true,
         Asked::Explain => true,
+        Asked::ExplainEach => true,
+        Asked::Test => true,
+        Asked::Dump => true,
+        Asked::Diff => false,
         Asked::Text => false,
         Asked::TextOn => false,
         Asked::Back => false,
@@ -255,6 +279,10 @@ fn without_part(asked: Asked, second: &[u8], input: i32, out: &mut Paper) {
         Asked::NewFrom => {}
         Asked::Run => {}
         Asked::Explain => {}
+        Asked::ExplainEach => {}
+        Asked::Test => {}
+        Asked::Dump => {}
+        Asked::Diff => {}
         Asked::Text => from_text(no_shape(), input, out),
         Asked::TextOn => text_on(second, input, out),
         Asked::Back => to_text(input, out),
@@ -299,7 +327,7 @@ pub fn nib() {
     let a = argument(1, &mut first);
     let b = argument(2, &mut second);
     let c = argument(3, &mut third);
-    let asked = asked_of(os::arg_count(), &first[..a], &second[..b]);
+    let asked = asked_of(os::arg_count(), &first[..a], &second[..b], &third[..c]);
     act(
         asked,
         &second[..b],

@@ -6,7 +6,7 @@ use lib.Dec.{eqb}
 use lib.ListN.{getD}
 use Rattle.target.specs.Pick.{pick}
 use Rattle.nib_args.specs.declared.Asked.{Asked}
-use Rattle.nib_args.specs.declared.Asked.the-variants.{Demo, New, NewFrom, Run, Explain, Text, TextOn, Back, Jobs, JobsOn, Page, Check, Parts, Version, Help, Wrong}
+use Rattle.nib_args.specs.declared.Asked.the-variants.{Demo, New, NewFrom, Run, Explain, ExplainEach, Test, Dump, Diff, Text, TextOn, Back, Jobs, JobsOn, Page, Check, Parts, Version, Help, Wrong}
 use Rattle.nib_args.specs.declared.May.{May}
 
 -- the same bytes in the same order
@@ -38,7 +38,7 @@ partsWord = 112 ∷ 97 ∷ 114 ∷ 116 ∷ 115 ∷ []
 abbrev pub helpFlag : List ℕ
 helpFlag = 45 ∷ 45 ∷ 104 ∷ 101 ∷ 108 ∷ 112 ∷ []
 
--- new, run, explain, page, check, -d
+-- new, run, explain, test, dump, diff, page, check, -d, -v
 abbrev pub newWord : List ℕ
 newWord = 110 ∷ 101 ∷ 119 ∷ []
 
@@ -48,6 +48,15 @@ runWord = 114 ∷ 117 ∷ 110 ∷ []
 abbrev pub explainWord : List ℕ
 explainWord = 101 ∷ 120 ∷ 112 ∷ 108 ∷ 97 ∷ 105 ∷ 110 ∷ []
 
+abbrev pub testWord : List ℕ
+testWord = 116 ∷ 101 ∷ 115 ∷ 116 ∷ []
+
+abbrev pub dumpWord : List ℕ
+dumpWord = 100 ∷ 117 ∷ 109 ∷ 112 ∷ []
+
+abbrev pub diffWord : List ℕ
+diffWord = 100 ∷ 105 ∷ 102 ∷ 102 ∷ []
+
 abbrev pub pageWord : List ℕ
 pageWord = 112 ∷ 97 ∷ 103 ∷ 101 ∷ []
 
@@ -56,6 +65,9 @@ checkWord = 99 ∷ 104 ∷ 101 ∷ 99 ∷ 107 ∷ []
 
 abbrev pub backFlag : List ℕ
 backFlag = 45 ∷ 100 ∷ []
+
+abbrev pub eachFlag : List ℕ
+eachFlag = 45 ∷ 118 ∷ []
 
 -- a word by itself
 unfoldable pub aloneOf : List ℕ → Asked
@@ -78,11 +90,12 @@ named w =
     pick (sameBytes w newWord) New
     (pick (sameBytes w runWord) Run
     (pick (sameBytes w explainWord) Explain
+    (pick (sameBytes w testWord) Test
     (pick (sameBytes w textWord) TextOn
     (pick (sameBytes w jobsWord) JobsOn
     (pick (sameBytes w pageWord) Page
     (pick (sameBytes w checkWord) Check
-    Wrong))))))
+    Wrong)))))))
 
 -- a word with another after it: a folder, a file, -d or --help
 unfoldable pub withOneOf : List ℕ → List ℕ → Asked
@@ -92,38 +105,49 @@ withOneOf w v =
     (pick (dashed v) Wrong
     (named w)))
 
+-- a word with two others after it: a folder and a part or a folder, or -v and a folder
+unfoldable pub withTwoOf : List ℕ → List ℕ → List ℕ → Asked
+withTwoOf w v u =
+    pick (sameBytes u helpFlag) Help
+    (pick (dashed u) Wrong
+    (pick (sameBytes w explainWord && sameBytes v eachFlag) ExplainEach
+    (pick (dashed v) Wrong
+    (pick (sameBytes w newWord) NewFrom
+    (pick (sameBytes w diffWord) Diff
+    Wrong)))))
+
 -- n arguments were given, the program's own name among them
-unfoldable pub askedOf : ℕ → List ℕ → List ℕ → Asked
-askedOf n w v =
+unfoldable pub askedOf : ℕ → List ℕ → List ℕ → List ℕ → Asked
+askedOf n w v u =
     pick (eqb n 2) (aloneOf w)
     (pick (eqb n 3) (withOneOf w v)
-    (pick (eqb n 4 && sameBytes w newWord && not (dashed v)) NewFrom
-    Wrong))
+    (pick (eqb n 4) (withTwoOf w v u)
+    (pick (eqb n 6 && sameBytes w dumpWord && not (dashed v)) Dump
+    Wrong)))
 
--- what a command may do to files: `new` makes a folder, `run` stores array, counts and registers, and no other does either
-abbrev pub mayNothing : May
-mayNothing = record { make = false; store = false }
-
-abbrev pub mayMake : May
-mayMake = record { make = true; store = false }
-
-abbrev pub mayStore : May
-mayStore = record { make = false; store = true }
+-- what a command does to files: 1 makes a folder, as `new`; 2 stores array, counts and registers, as `run` and `test`; no other
+-- does either
+abbrev pub touches : Asked → ℕ
+touches Demo = 0
+touches New = 1
+touches NewFrom = 1
+touches Run = 2
+touches Explain = 0
+touches ExplainEach = 0
+touches Test = 2
+touches Dump = 0
+touches Diff = 0
+touches Text = 0
+touches TextOn = 0
+touches Back = 0
+touches Jobs = 0
+touches JobsOn = 0
+touches Page = 0
+touches Check = 0
+touches Parts = 0
+touches Version = 0
+touches Help = 0
+touches Wrong = 0
 
 abbrev pub mayOf : Asked → May
-mayOf Demo = mayNothing
-mayOf New = mayMake
-mayOf NewFrom = mayMake
-mayOf Run = mayStore
-mayOf Explain = mayNothing
-mayOf Text = mayNothing
-mayOf TextOn = mayNothing
-mayOf Back = mayNothing
-mayOf Jobs = mayNothing
-mayOf JobsOn = mayNothing
-mayOf Page = mayNothing
-mayOf Check = mayNothing
-mayOf Parts = mayNothing
-mayOf Version = mayNothing
-mayOf Help = mayNothing
-mayOf Wrong = mayNothing
+mayOf asked = record { make = eqb (touches asked) 1; store = eqb (touches asked) 2 }

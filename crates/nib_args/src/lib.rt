@@ -2,7 +2,7 @@
 use slices::byte_at;
 ghost use mathlib.Core.Path.{_≡_};
 ghost use Rattle.target.specs.Pick.{pick};
-ghost use Rattle.nib_args.specs.Asked.{sameBytes, aloneOf, dashed, named, withOneOf, askedOf, mayNothing, mayMake, mayStore, mayOf};
+ghost use Rattle.nib_args.specs.Asked.{sameBytes, aloneOf, dashed, named, withOneOf, withTwoOf, askedOf, touches, mayOf};
 
 pub enum Asked {
     Demo,
@@ -10,7 +10,16 @@ pub enum Asked {
     // with a page file
     NewFrom,
     Run,
+    // data in a row told in one line
     Explain,
+    // each event in a line of its own
+    ExplainEach,
+    // a text with expectations
+    Test,
+    // a page of the array
+    Dump,
+    // of two folders
+    Diff,
     // text to trace
     Text,
     // with jobs on a part
@@ -78,6 +87,7 @@ pub fn named(w: &[u8]) -> Asked
     let a = pick_asked(is_word(w, b"page"), Asked::Page, a);
     let a = pick_asked(is_word(w, b"jobs"), Asked::JobsOn, a);
     let a = pick_asked(is_word(w, b"text"), Asked::TextOn, a);
+    let a = pick_asked(is_word(w, b"test"), Asked::Test, a);
     let a = pick_asked(is_word(w, b"explain"), Asked::Explain, a);
     let a = pick_asked(is_word(w, b"run"), Asked::Run, a);
     pick_asked(is_word(w, b"new"), Asked::New, a)
@@ -93,63 +103,65 @@ pub fn with_one(w: &[u8], v: &[u8]) -> Asked
     pick_asked(is_word(v, b"--help"), Asked::Help, a)
 }
 
-// `n` arguments were given, the program's own name among them; the first two after it are `w` and `v`.
-pub fn asked_of(n: usize, w: &[u8], v: &[u8]) -> Asked
-    ensures { λ r. ⌜ r ≡ askedOf n (now (w .entry)) (now (v .entry)) ⌝ }
+// A word with two others after it: a folder and a part or a folder, or -v and a folder.
+pub fn with_two(w: &[u8], v: &[u8], u: &[u8]) -> Asked
+    ensures { λ r. ⌜ r ≡ withTwoOf (now (w .entry)) (now (v .entry)) (now (u .entry)) ⌝ }
 {
-    let from = (n == 4) & is_word(w, b"new") & !dashed(v);
-    let a = pick_asked(from, Asked::NewFrom, Asked::Wrong);
+    let each = is_word(w, b"explain") & is_word(v, b"-v");
+    let a = pick_asked(is_word(w, b"diff"), Asked::Diff, Asked::Wrong);
+    let a = pick_asked(is_word(w, b"new"), Asked::NewFrom, a);
+    let a = pick_asked(dashed(v), Asked::Wrong, a);
+    let a = pick_asked(each, Asked::ExplainEach, a);
+    let a = pick_asked(dashed(u), Asked::Wrong, a);
+    pick_asked(is_word(u, b"--help"), Asked::Help, a)
+}
+
+// `n` arguments were given, the program's own name among them; the first three after it are `w`, `v` and `u`.
+pub fn asked_of(n: usize, w: &[u8], v: &[u8], u: &[u8]) -> Asked
+    ensures { λ r. ⌜ r ≡ askedOf n (now (w .entry)) (now (v .entry)) (now (u .entry)) ⌝ }
+{
+    let dump = (n == 6) & is_word(w, b"dump") & !dashed(v);
+    let a = pick_asked(dump, Asked::Dump, Asked::Wrong);
+    let a = pick_asked(n == 4, with_two(w, v, u), a);
     let a = pick_asked(n == 3, with_one(w, v), a);
     pick_asked(n == 2, alone(w), a)
 }
 
-// What the command may do to files: `new` makes a folder, `run` stores, and no other does either.
+// What a command does to files: 1 makes a folder, as `new`; 2 stores, as `run` and `test`; 0 neither.
+pub fn touches(asked: Asked) -> u8
+    ensures { λ r. ⌜ r ≡ touches asked ⌝ }
+{
+    match asked {
+        Asked::Demo => 0,
+        Asked::New => 1,
+        Asked::NewFrom => 1,
+        Asked::Run => 2,
+        Asked::Explain => 0,
+        Asked::ExplainEach => 0,
+        Asked::Test => 2,
+        Asked::Dump => 0,
+        Asked::Diff => 0,
+        Asked::Text => 0,
+        Asked::TextOn => 0,
+        Asked::Back => 0,
+        Asked::Jobs => 0,
+        Asked::JobsOn => 0,
+        Asked::Page => 0,
+        Asked::Check => 0,
+        Asked::Parts => 0,
+        Asked::Version => 0,
+        Asked::Help => 0,
+        Asked::Wrong => 0,
+    }
+}
+
+// What the command may do to files.
 pub fn allowed(asked: Asked) -> May
     ensures { λ r. ⌜ r ≡ mayOf asked ⌝ }
 {
-    match asked {
-        Asked::Demo => may_nothing(),
-        Asked::New => may_make(),
-        Asked::NewFrom => may_make(),
-        Asked::Run => may_store(),
-        Asked::Explain => may_nothing(),
-        Asked::Text => may_nothing(),
-        Asked::TextOn => may_nothing(),
-        Asked::Back => may_nothing(),
-        Asked::Jobs => may_nothing(),
-        Asked::JobsOn => may_nothing(),
-        Asked::Page => may_nothing(),
-        Asked::Check => may_nothing(),
-        Asked::Parts => may_nothing(),
-        Asked::Version => may_nothing(),
-        Asked::Help => may_nothing(),
-        Asked::Wrong => may_nothing(),
-    }
-}
-
-fn may_nothing() -> May
-    ensures { λ r. ⌜ r ≡ mayNothing ⌝ }
-{
+    let n = touches(asked);
     May {
-        make: false,
-        store: false,
-    }
-}
-
-fn may_make() -> May
-    ensures { λ r. ⌜ r ≡ mayMake ⌝ }
-{
-    May {
-        make: true,
-        store: false,
-    }
-}
-
-fn may_store() -> May
-    ensures { λ r. ⌜ r ≡ mayStore ⌝ }
-{
-    May {
-        make: false,
-        store: true,
+        make: n == 1,
+        store: n == 2,
     }
 }

@@ -63,6 +63,9 @@ onPart g (said.Byte b) = said.Byte b
 onPart g (said.Outs n) = said.Outs n
 onPart g (said.Value a n) = valueOn g a n
 onPart g (said.Wrong w) = said.Wrong w
+onPart g said.Accepted = said.Accepted
+onPart g (said.Expected b) = said.Expected b
+onPart g (said.Refused n) = said.Refused n
 
 abbrev pub noValues : Values
 noValues = record { lun = 0; block = 0; page = 0; column = 0; count = 0 }

@@ -91,6 +91,9 @@ pub fn on_part(g: Geometry, s: Said) -> Said
         Said::Outs(_) => s,
         Said::Value { of, number } => value_on(g, of, number),
         Said::Wrong(_) => s,
+        Said::Accepted => s,
+        Said::Expected(_) => s,
+        Said::Refused(_) => s,
     }
 }
 

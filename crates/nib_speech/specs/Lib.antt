@@ -1,2 +1,3 @@
+pub mod Expects
 pub mod Pieces
 pub mod Speech

@@ -18,18 +18,20 @@ use Rattle.nib_speech.specs.Speech.{writingOf}
 -- why a word is bad, by its number
 unfoldable pub reasonWords : ℕ → List ℕ
 reasonWords n =
-    when (eqb n 1) (ascii "no letter of c a d o f p x, and no job's word, stands before it on its line")
+    when (eqb n 1) (ascii "no letter of c a d o f p x = ! and no job's word stands before it on its line")
     ++ (when (eqb n 2) (ascii "a letter with no value")
     ++ (when (eqb n 3) (ascii "not two hex digits")
     ++ (when (eqb n 4) (ascii "not a decimal number, or too large")
-    ++ (when (eqb n 5) (ascii "a letter or a job's word, where the letter before it wants a value; a byte has two hex digits")
+    ++ (when (eqb n 5) (ascii "a letter, a job's word or ok, where the letter before it wants a value; a byte has two hex digits")
     ++ (when (eqb n 6) (ascii "a job's word, which needs a part: text DIR")
     ++ (when (eqb n 7) (ascii "the job wants a value more")
     ++ (when (eqb n 8) (ascii "a value more than the job takes")
     ++ (when (eqb n 9) (ascii "the part has no such LUN")
     ++ (when (eqb n 10) (ascii "the part has no such block")
     ++ (when (eqb n 11) (ascii "the part has no such page")
-    ++ when (eqb n 12) (ascii "the part has no such column")))))))))))
+    ++ (when (eqb n 12) (ascii "the part has no such column")
+    ++ (when (eqb n 13) (ascii "a value after ok, which takes none")
+    ++ when (eqb n 14) (ascii "not the number of a refusal: 1 to 255, in decimal")))))))))))))
 
 -- c a d o f p x
 unfoldable pub letterWords : Kind → List ℕ

@@ -14,7 +14,7 @@ use Rattle.nib_text.specs.Kinds.{kindNumber}
 use Rattle.nib_text.specs.Reading.{nextOf, isGap}
 use Rattle.nib_text.specs.Writing.{wroteNext, wroteOdd}
 use Rattle.nib_text.specs.declared.Kind.{Kind}
-use Rattle.nib_text.specs.declared.Kind.the-variants.{Nothing, Command, Address, DataIn, DataOut, Finish, Protect, Raw}
+use Rattle.nib_text.specs.declared.Kind.the-variants.{Nothing, Command, Address, DataIn, DataOut, Finish, Protect, Raw, Bytes, Refusal, Accepted}
 use Rattle.nib_text.specs.declared.reading.Reading.{Reading}
 use Rattle.nib_text.specs.declared.reading.Wrong.{Wrong}
 use Rattle.nib_text.specs.declared.reading.Wrong.the-variants as wrong
@@ -39,7 +39,10 @@ kindOf n =
     (pick (eqb n 5) Finish
     (pick (eqb n 6) Protect
     (pick (eqb n 7) Raw
-    Nothing))))))
+    (pick (eqb n 8) Bytes
+    (pick (eqb n 9) Refusal
+    (pick (eqb n 10) Accepted
+    Nothing)))))))))
 
 unfoldable pub firstOf : ℕ → First
 firstOf n =
@@ -60,34 +63,34 @@ asksOf n =
     (pick (eqb n 6) asks.Byte
     asks.Nothing)))))
 
--- from the lowest bit on: comment, due, no hex digits, no decimal digits, 3 bits the letter, 2 the word's length, 8 its first
--- byte, 8 its last two as hex digits, 20 its number, whether a part is given, 5 how much of a job's word it is, 3 how many of the
--- job's values have come, 3 the job
+-- from the lowest bit on: comment, due, no hex digits, no decimal digits, 2 bits the word's length, 8 its first byte, 8 its last
+-- two as hex digits, 20 its number, 3 that are 0, whether a part is given, 6 how much of a job's word or of ok it is, 3 how many
+-- of the job's values have come, 3 the job, 4 the letter
 unfoldable pub readingOf : ℕ → Reading
 readingOf n = record {
   comment = eqb (n % 2) 1;
-  kind = kindOf (n / 16 % 8);
+  kind = kindOf (n / 288230376151711744);
   due = eqb (n / 2 % 2) 1;
   word = record {
-    length = n / 128 % 4;
-    first = n / 512 % 256;
-    hex = n / 131072 % 256;
+    length = n / 16 % 4;
+    first = n / 64 % 256;
+    hex = n / 16384 % 256;
     hexed = eqb (n / 4 % 2) 0;
-    number = n / 33554432 % 1048576;
+    number = n / 4194304 % 1048576;
     numbered = eqb (n / 8 % 2) 0;
-    name = n / 70368744177664 % 32;
+    name = n / 70368744177664 % 64;
   };
   part = eqb (n / 35184372088832 % 2) 1;
-  job = firstOf (n / 18014398509481984 % 8);
-  got = n / 2251799813685248 % 8;
+  job = firstOf (n / 36028797018963968 % 8);
+  got = n / 4503599627370496 % 8;
 }
 
 unfoldable pub readingNumber : Reading → ℕ
 readingNumber r =
     bit (r .comment) + bit (r .due) * 2 + bit (not (r .word .hexed)) * 4 + bit (not (r .word .numbered)) * 8
-    + kindNumber (r .kind) * 16 + r .word .length * 128 + r .word .first * 512 + r .word .hex * 131072
-    + r .word .number % 1048576 * 33554432 + bit (r .part) * 35184372088832 + r .word .name % 32 * 70368744177664
-    + r .got % 8 * 2251799813685248 + jobNumber (r .job) * 18014398509481984
+    + r .word .length * 16 + r .word .first * 64 + r .word .hex * 16384 + r .word .number % 1048576 * 4194304
+    + bit (r .part) * 35184372088832 + r .word .name % 64 * 70368744177664 + r .got % 8 * 4503599627370496
+    + jobNumber (r .job) * 36028797018963968 + kindNumber (r .kind) % 16 * 288230376151711744
 
 abbrev pub wrongNumber : Wrong → ℕ
 wrongNumber wrong.NoLetter = 1
@@ -102,6 +105,8 @@ wrongNumber wrong.NoLun = 9
 wrongNumber wrong.NoBlock = 10
 wrongNumber wrong.NoPage = 11
 wrongNumber wrong.NoColumn = 12
+wrongNumber wrong.AfterOk = 13
+wrongNumber wrong.NotRefusal = 14
 
 abbrev pub saidNumber : Said → ℕ
 saidNumber said.Nothing = 0
@@ -110,12 +115,15 @@ saidNumber (said.Byte b) = 131072 + b
 saidNumber (said.Outs n) = 196608 + n % 65536
 saidNumber (said.Value a n) = 262144 + asksNumber a * 65536 + n % 65536
 saidNumber (said.Wrong w) = 262144 + wrongNumber w
+saidNumber said.Accepted = 720896
+saidNumber (said.Expected b) = 786432 + b
+saidNumber (said.Refused n) = 851968 + n
 
 unfoldable pub writingOf : ℕ → Writing
-writingOf n = record { half = eqb (n % 2) 1; first = n / 16 % 256; line = kindOf (n / 2 % 8); many = n / 4096 }
+writingOf n = record { half = eqb (n % 2) 1; first = n / 32 % 256; line = kindOf (n / 2 % 16); many = n / 8192 }
 
 unfoldable pub writingNumber : Writing → ℕ
-writingNumber w = bit (w .half) + kindNumber (w .line) * 2 + w .first * 16 + w .many % 65536 * 4096
+writingNumber w = bit (w .half) + kindNumber (w .line) * 2 + w .first * 32 + w .many % 65536 * 8192
 
 unfoldable pub textNext : ℕ → ℕ → ℕ
 textNext s b = readingNumber (nextOf (readingOf s) b .reading)
@@ -126,6 +134,10 @@ textSaid s b = saidNumber (nextOf (readingOf s) b .said)
 -- the job that ends with the byte
 unfoldable pub textJob : ℕ → ℕ → ℕ
 textJob s b = jobNumber (nextOf (readingOf s) b .whole)
+
+-- whether a list of expected bytes ends with the byte
+unfoldable pub textListed : ℕ → ℕ → ℕ
+textListed s b = bit (nextOf (readingOf s) b .listed)
 
 -- a part by its sizes; columns are the page size P
 abbrev pub sizes : ℕ → ℕ → ℕ → ℕ → Geometry

@@ -1,5 +1,7 @@
-// For hosts: the grammar of a trace as text and the words of `explain` and `jobs`, over plain numbers and lent bytes, so that no
-// host writes them a second time. What is read or written so far is a number, which is 0 where a text or a trace begins.
+// For hosts: the grammar of a trace as text, what a script expects, and the words of `explain` and `jobs`, over plain numbers and
+// lent bytes, so that no host writes them a second time. What is read, written or answered so far is a number, which is 0 where a
+// text, a trace or a script begins.
+pub mod expects;
 pub mod pieces;
 pub mod states;
 
@@ -34,7 +36,7 @@ ghost use Rattle.nib_words.specs.Desk.{Desk, wrote};
 ghost use Rattle.nib_words.specs.Say.{eventWords, replyWords, ruleWords};
 ghost use Rattle.nib_told.specs.Lines.{lineAt};
 ghost use Rattle.nib_places.specs.Places.{rowOf};
-ghost use Rattle.nib_speech.specs.Speech.{versionNumber, textNext, textSaid, textJob, textBegins, sizes, saidOn, backNext};
+ghost use Rattle.nib_speech.specs.Speech.{versionNumber, textNext, textSaid, textJob, textListed, textBegins, sizes, saidOn, backNext};
 ghost use Rattle.nib_speech.specs.Pieces.{reasonWords, backWords, endWords, lineSaid};
 
 // The version, as VERSION has it: major, minor and patch, a byte each.
@@ -64,8 +66,9 @@ pub extern "C" fn nib_text_next(state: u64, byte: u8) -> u64
 }
 
 // What that byte adds to the trace: what it is times 65,536, and the value. 0 nothing; 1 a record, its kind times 256 and its
-// value; 2 a byte as it is; 3 so many data outs; 4 a bad word, and which of the reasons 1 to 12; 5 to 9 a job's LUN, block, page,
-// column and count; 10 a byte of a program.
+// value; 2 a byte as it is; 3 so many data outs; 4 a bad word, and which of the reasons 1 to 14; 5 to 9 a job's LUN, block, page,
+// column and count; 10 a byte of a program. What it expects adds nothing: 11 `ok`, after the job and the list that end with the
+// byte; 12 a byte of a list; 13 a refusal.
 #[no_mangle]
 pub extern "C" fn nib_text_said(state: u64, byte: u8) -> u64
     ensures { λ r. ⌜ r ≡ textSaid state byte ⌝ }
@@ -84,6 +87,16 @@ pub extern "C" fn nib_text_job(state: u64, byte: u8) -> u8
     let read = next(reading_of(state), byte);
     let whole = read.whole;
     job_number(whole)
+}
+
+// 1 where a list of expected bytes ends with that byte, with what it says as the list's last; 0 elsewhere. It means nothing where
+// the word is bad.
+#[no_mangle]
+pub extern "C" fn nib_text_listed(state: u64, byte: u8) -> u8
+    ensures { λ r. ⌜ r ≡ textListed state byte ⌝ }
+{
+    let read = next(reading_of(state), byte);
+    set_bit(read.listed)
 }
 
 // The sizes of a part; `columns` is its page size P.
@@ -240,7 +253,7 @@ pub extern "C" fn nib_say_line(
     line_words(out, 0, !(luns == 0), g, told, line.next)
 }
 
-// The words of why a word of a text is bad, 1 to 12 as `nib_text_said` gives it; none for another number. 96 are room enough.
+// The words of why a word of a text is bad, 1 to 14 as `nib_text_said` gives it; none for another number. 128 are room enough.
 #[no_mangle]
 pub extern "C" fn nib_say_wrong(which: u8, out: &mut [u8]) -> usize
     ensures { λ r. ⌜ _≡_ {A = Desk} (record { room = now (out .exit); at = r }) (wrote (record { room = now (out .entry); at = 0 }) (reasonWords which)) ⌝ }

@@ -23,7 +23,7 @@ pub fn reason(out: &mut [u8], at: usize, n: u8) -> usize
         out,
         at,
         n == 1,
-        b"no letter of c a d o f p x, and no job's word, stands before it on its line",
+        b"no letter of c a d o f p x = ! and no job's word stands before it on its line",
     );
     let at = say_if(out, at, n == 2, b"a letter with no value");
     let at = say_if(out, at, n == 3, b"not two hex digits");
@@ -32,7 +32,7 @@ pub fn reason(out: &mut [u8], at: usize, n: u8) -> usize
         out,
         at,
         n == 5,
-        b"a letter or a job's word, where the letter before it wants a value; a byte has two hex digits",
+        b"a letter, a job's word or ok, where the letter before it wants a value; a byte has two hex digits",
     );
     let at = say_if(
         out,
@@ -45,7 +45,14 @@ pub fn reason(out: &mut [u8], at: usize, n: u8) -> usize
     let at = say_if(out, at, n == 9, b"the part has no such LUN");
     let at = say_if(out, at, n == 10, b"the part has no such block");
     let at = say_if(out, at, n == 11, b"the part has no such page");
-    say_if(out, at, n == 12, b"the part has no such column")
+    let at = say_if(out, at, n == 12, b"the part has no such column");
+    let at = say_if(out, at, n == 13, b"a value after ok, which takes none");
+    say_if(
+        out,
+        at,
+        n == 14,
+        b"not the number of a refusal: 1 to 255, in decimal",
+    )
 }
 
 fn letter(out: &mut [u8], at: usize, k: Kind) -> usize

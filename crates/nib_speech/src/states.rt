@@ -25,7 +25,10 @@ pub fn set_bit(b: bool) -> u8
 pub fn kind_of(n: u64) -> Kind
     ensures { λ r. ⌜ r ≡ kindOf n ⌝ }
 {
-    let k = pick_kind(n == 7, Kind::Raw, Kind::Nothing);
+    let k = pick_kind(n == 10, Kind::Accepted, Kind::Nothing);
+    let k = pick_kind(n == 9, Kind::Refusal, k);
+    let k = pick_kind(n == 8, Kind::Bytes, k);
+    let k = pick_kind(n == 7, Kind::Raw, k);
     let k = pick_kind(n == 6, Kind::Protect, k);
     let k = pick_kind(n == 5, Kind::Finish, k);
     let k = pick_kind(n == 4, Kind::DataOut, k);
@@ -61,16 +64,16 @@ pub fn reading_of(n: u64) -> Reading
     ensures { λ r. ⌜ r ≡ readingOf n ⌝ }
 {
     let word = Word {
-        length: (n / 128 % 4) as u8,
-        first: (n / 512 % 256) as u8,
-        hex: (n / 131072 % 256) as u8,
+        length: (n / 16 % 4) as u8,
+        first: (n / 64 % 256) as u8,
+        hex: (n / 16384 % 256) as u8,
         hexed: n / 4 % 2 == 0,
-        number: (n / 33554432 % 1048576) as usize,
+        number: (n / 4194304 % 1048576) as usize,
         numbered: n / 8 % 2 == 0,
-        name: (n / 70368744177664 % 32) as u8,
+        name: (n / 70368744177664 % 64) as u8,
     };
-    let kind = kind_of(n / 16 % 8);
-    let job = first_of(n / 18014398509481984 % 8);
+    let kind = kind_of(n / 288230376151711744);
+    let job = first_of(n / 36028797018963968 % 8);
     Reading {
         comment: n % 2 == 1,
         kind,
@@ -78,7 +81,7 @@ pub fn reading_of(n: u64) -> Reading
         word,
         part: n / 35184372088832 % 2 == 1,
         job,
-        got: (n / 2251799813685248 % 8) as u8,
+        got: (n / 4503599627370496 % 8) as u8,
     }
 }
 
@@ -92,15 +95,15 @@ pub fn reading_number(r: Reading) -> u64
         + (set_bit(r.due) as u64) * 2
         + (set_bit(!w.hexed) as u64) * 4
         + (set_bit(!w.numbered) as u64) * 8
-        + (kind_number(k) as u64) * 16
-        + (w.length as u64) * 128
-        + (w.first as u64) * 512
-        + (w.hex as u64) * 131072
-        + (w.number as u64) % 1048576 * 33554432
+        + (w.length as u64) * 16
+        + (w.first as u64) * 64
+        + (w.hex as u64) * 16384
+        + (w.number as u64) % 1048576 * 4194304
         + (set_bit(r.part) as u64) * 35184372088832
-        + (w.name as u64) % 32 * 70368744177664
-        + (r.got as u64) % 8 * 2251799813685248
-        + (job_number(job) as u64) * 18014398509481984
+        + (w.name as u64) % 64 * 70368744177664
+        + (r.got as u64) % 8 * 4503599627370496
+        + (job_number(job) as u64) * 36028797018963968
+        + (kind_number(k) as u64) % 16 * 288230376151711744
 }
 
 pub fn wrong_number(w: Wrong) -> u8
@@ -119,6 +122,8 @@ pub fn wrong_number(w: Wrong) -> u8
         Wrong::NoBlock => 10,
         Wrong::NoPage => 11,
         Wrong::NoColumn => 12,
+        Wrong::AfterOk => 13,
+        Wrong::NotRefusal => 14,
     }
 }
 
@@ -134,18 +139,21 @@ pub fn said_number(s: Said) -> u64
             262144 + (asks_number(of) as u64) * 65536 + (number as u64) % 65536
         }
         Said::Wrong(w) => 262144 + wrong_number(w) as u64,
+        Said::Accepted => 720896,
+        Said::Expected(b) => 786432 + b as u64,
+        Said::Refused(n) => 851968 + n as u64,
     }
 }
 
 pub fn writing_of(n: u64) -> Writing
     ensures { λ r. ⌜ r ≡ writingOf n ⌝ }
 {
-    let line = kind_of(n / 2 % 8);
+    let line = kind_of(n / 2 % 16);
     Writing {
         half: n % 2 == 1,
-        first: (n / 16 % 256) as u8,
+        first: (n / 32 % 256) as u8,
         line,
-        many: (n / 4096) as usize,
+        many: (n / 8192) as usize,
     }
 }
 
@@ -155,6 +163,6 @@ pub fn writing_number(w: Writing) -> u64
     let line = w.line;
     set_bit(w.half) as u64
         + (kind_number(line) as u64) * 2
-        + (w.first as u64) * 16
-        + (w.many as u64) % 65536 * 4096
+        + (w.first as u64) * 32
+        + (w.many as u64) % 65536 * 8192
 }

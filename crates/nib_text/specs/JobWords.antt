@@ -1,4 +1,4 @@
--- Words for whole jobs (document 02, A5): which words name one, and the values that come after each.
+-- Words for whole jobs (document 02, A5): which words name one, and the values that come after each. And the word ok.
 use Prim.Native.Nat.{ℕ, _+_}
 use mathlib.Core.Path.{_≡_}
 use mathlib.Core.Bool.{Bool, true, _&&_, not}
@@ -23,7 +23,7 @@ jobNumber first.Status = 5
 abbrev pub isJob : First → Bool
 isJob f = not (eqb (jobNumber f) 0)
 
--- the words in ASCII: read-out, whose front is read; program; erase; status
+-- the words in ASCII: read-out, whose front is read; program; erase; status; ok
 abbrev pub readOutWord : List ℕ → List ℕ
 readOutWord ls = 114 ∷ (101 ∷ (97 ∷ (100 ∷ (45 ∷ (111 ∷ (117 ∷ (116 ∷ ls)))))))
 
@@ -36,17 +36,20 @@ eraseWord ls = 101 ∷ (114 ∷ (97 ∷ (115 ∷ (101 ∷ ls))))
 abbrev pub statusWord : List ℕ → List ℕ
 statusWord ls = 115 ∷ (116 ∷ (97 ∷ (116 ∷ (117 ∷ (115 ∷ ls)))))
 
+abbrev pub okWord : List ℕ → List ℕ
+okWord ls = 111 ∷ (107 ∷ ls)
+
 -- one after the other, each with a 0 behind it
 abbrev pub letters : List ℕ
-letters = readOutWord (0 ∷ programWord (0 ∷ eraseWord (0 ∷ statusWord (0 ∷ []))))
+letters = readOutWord (0 ∷ programWord (0 ∷ eraseWord (0 ∷ statusWord (0 ∷ okWord (0 ∷ [])))))
 
--- How much of a job's word a word is: the place after its last byte in those letters, 31 for what is no job's word. After the
--- first byte it is one of the words' own places; each byte more is the letter that stands there
+-- How much of one of these words a word is: the place after its last byte in those letters, 63 for what is none of them. After
+-- the first byte it is one of the words' own places; each byte more is the letter that stands there
 unfoldable pub nameBegun : ℕ → ℕ
-nameBegun b = pick (eqb b 114) 1 (pick (eqb b 112) 10 (pick (eqb b 101) 18 (pick (eqb b 115) 24 31)))
+nameBegun b = pick (eqb b 114) 1 (pick (eqb b 112) 10 (pick (eqb b 101) 18 (pick (eqb b 115) 24 (pick (eqb b 111) 31 63))))
 
 unfoldable pub nameNext : ℕ → ℕ → ℕ
-nameNext n b = pick (eqb b (getD letters n 0) && not (eqb b 0) && ltb n 30) (n + 1) 31
+nameNext n b = pick (eqb b (getD letters n 0) && not (eqb b 0) && ltb n 33) (n + 1) 63
 
 -- the places where a word is whole
 unfoldable pub jobNamed : ℕ → First
@@ -57,6 +60,9 @@ jobNamed n =
     (pick (eqb n 22) first.Erase
     (pick (eqb n 29) first.Status
     first.Nothing))))
+
+abbrev pub isOk : ℕ → Bool
+isOk n = eqb n 32
 
 -- a word's bytes, first to last
 abbrev pub nameAfter : ℕ → List ℕ → ℕ
@@ -75,11 +81,13 @@ wordOf first.Program = programWord []
 wordOf first.Erase = eraseWord []
 wordOf first.Status = statusWord []
 
--- each job has its word, and no other word names one (proved in proofs/Names.antt): whoever believes these words need not read
--- the places above
+-- each job has its word, and no other word names one; nor is any other word ok (proved in proofs/Names.antt): whoever believes
+-- these words need not read the places above
 pub record Names : Type 0 where
   pub named : (f : First) → jobNamed (nameOf (wordOf f)) ≡ f
   pub only : (bs : List ℕ) → isJob (jobNamed (nameOf bs)) ≡ true → bs ≡ wordOf (jobNamed (nameOf bs))
+  pub ok : isOk (nameOf (okWord [])) ≡ true
+  pub only-ok : (bs : List ℕ) → isOk (nameOf bs) ≡ true → bs ≡ okWord []
 
 abbrev pub asksNumber : Asks → ℕ
 asksNumber asks.Nothing = 0

@@ -6,10 +6,10 @@ use Rattle.target.specs.Pick.{pick}
 use Rattle.jobs.specs.declared.reading.First.{First}
 use Rattle.jobs.specs.declared.reading.First.the-variants as first
 use Rattle.nib_text.specs.Kinds.{sameKind}
-use Rattle.nib_text.specs.JobWords.{isJob, nameBegun, nameNext, jobNamed, asksNumber, wants, asksOf}
+use Rattle.nib_text.specs.JobWords.{isJob, nameBegun, nameNext, jobNamed, isOk, asksNumber, wants, asksOf}
 use Rattle.nib_text.specs.declared.job_words.Asks.{Asks}
 use Rattle.nib_text.specs.declared.Kind.{Kind}
-use Rattle.nib_text.specs.declared.Kind.the-variants.{Nothing, Command, Address, DataIn, DataOut, Finish, Protect, Raw}
+use Rattle.nib_text.specs.declared.Kind.the-variants.{Nothing, Command, Address, DataIn, DataOut, Finish, Protect, Raw, Bytes, Refusal, Accepted}
 use Rattle.nib_text.specs.declared.reading.Word.{Word}
 use Rattle.nib_text.specs.declared.reading.Reading.{Reading}
 use Rattle.nib_text.specs.declared.reading.Wrong.the-variants as wrong
@@ -29,7 +29,7 @@ hexValue b =
     (pick (ltb b 103) (b - 87)
     16)))))
 
--- c a d o f p x in ASCII
+-- c a d o f p x = ! in ASCII
 unfoldable pub letterOf : ℕ → Kind
 letterOf b =
     pick (eqb b 99) Command
@@ -39,7 +39,9 @@ letterOf b =
     (pick (eqb b 102) Finish
     (pick (eqb b 112) Protect
     (pick (eqb b 120) Raw
-    Nothing))))))
+    (pick (eqb b 61) Bytes
+    (pick (eqb b 33) Refusal
+    Nothing))))))))
 
 -- a line end, or the sign of a comment
 abbrev pub endsLine : ℕ → Bool
@@ -74,9 +76,9 @@ grown w b = record {
 unfoldable pub isLetter : Word → Bool
 isLetter w = eqb (w .length) 1 && not (sameKind (letterOf (w .first)) Nothing)
 
--- a letter, or a job's word
+-- a letter, a job's word, or ok
 unfoldable pub isHead : Word → Bool
-isHead w = isLetter w || isJob (jobNamed (w .name))
+isHead w = isLetter w || isJob (jobNamed (w .name)) || isOk (w .name)
 
 -- two hex digits; a number below 256; a count below 65,536
 unfoldable pub isByte : Word → Bool
@@ -87,6 +89,10 @@ isNumber w = w .numbered && ltb (w .number) 256
 
 unfoldable pub isCount : Word → Bool
 isCount w = w .numbered && ltb (w .number) 65536
+
+-- a refusal's number: 1 to 255
+unfoldable pub isRefusal : Word → Bool
+isRefusal w = isNumber w && ltb 0 (w .number)
 
 unfoldable pub byteSaid : ℕ → Word → Said
 byteSaid kind w = pick (isByte w) (said.Record kind (w .hex)) (said.Wrong wrong.NotByte)
@@ -100,6 +106,13 @@ countSaid w = pick (isCount w) (said.Outs (w .number)) (said.Wrong wrong.NotNumb
 unfoldable pub rawSaid : Word → Said
 rawSaid w = pick (isByte w) (said.Byte (w .hex)) (said.Wrong wrong.NotByte)
 
+-- a byte that must have come; the number of a refusal that must have come
+unfoldable pub expectedSaid : Word → Said
+expectedSaid w = pick (isByte w) (said.Expected (w .hex)) (said.Wrong wrong.NotByte)
+
+unfoldable pub refusalSaid : Word → Said
+refusalSaid w = pick (isRefusal w) (said.Refused (w .number)) (said.Wrong wrong.NotRefusal)
+
 -- a value, by the letter before it: kind 0 command, 1 address, 2 data in, 3 data out, 4 finish, 5 protect line
 abbrev pub valueSaid : Kind → Word → Said
 valueSaid Nothing w = said.Wrong wrong.NoLetter
@@ -110,6 +123,9 @@ valueSaid DataOut w = countSaid w
 valueSaid Finish w = numberSaid 4 w
 valueSaid Protect w = numberSaid 5 w
 valueSaid Raw w = rawSaid w
+valueSaid Bytes w = expectedSaid w
+valueSaid Refusal w = refusalSaid w
+valueSaid Accepted w = said.Wrong wrong.AfterOk
 
 -- a job's value: a decimal number, or a program's byte
 unfoldable pub jobSaid : Asks → Word → Said
@@ -118,11 +134,13 @@ jobSaid a w =
     (pick (eqb (asksNumber a) 6) (pick (isByte w) (said.Value a (w .hex)) (said.Wrong wrong.NotByte))
     (said.Wrong wrong.TooMany))
 
--- a letter or a job's word says nothing by itself. It is wrong where a value is wanted, and a job's word where no part is given
+-- a letter or a job's word says nothing by itself, and ok says all. It is wrong where a value is wanted, and a job's word where
+-- no part is given
 unfoldable pub headSaid : Reading → Said
 headSaid r =
     pick (r .due) (pick (isJob (r .job)) (said.Wrong wrong.TooFew) (said.Wrong wrong.Early))
-    (pick (isJob (jobNamed (r .word .name)) && not (r .part)) (said.Wrong wrong.NoPart) said.Nothing)
+    (pick (isJob (jobNamed (r .word .name)) && not (r .part)) (said.Wrong wrong.NoPart)
+    (pick (isOk (r .word .name)) said.Accepted said.Nothing))
 
 -- no word says nothing
 unfoldable pub wordSaid : Reading → Said
@@ -134,7 +152,10 @@ wordSaid r =
 
 -- the letter, or the job and how many of its values have come, after the word
 unfoldable pub wordKind : Reading → Kind
-wordKind r = pick (isHead (r .word)) (pick (isLetter (r .word)) (letterOf (r .word .first)) Nothing) (r .kind)
+wordKind r =
+    pick (isHead (r .word))
+    (pick (isLetter (r .word)) (letterOf (r .word .first)) (pick (isOk (r .word .name)) Accepted Nothing))
+    (r .kind)
 
 unfoldable pub wordJob : Reading → First
 wordJob r = pick (isHead (r .word)) (jobNamed (r .word .name)) (r .job)
@@ -149,7 +170,7 @@ wordGot r = pick (isHead (r .word)) 0 (pick (eqb (r .word .length) 0) (r .got) (
 unfoldable pub wordDue : Reading → Bool
 wordDue r =
     pick (eqb (r .word .length) 0) (r .due)
-    (isHead (r .word) || wants (asksOf (wordJob r) (wordGot r)))
+    (isHead (r .word) && not (isOk (r .word .name)) || wants (asksOf (wordJob r) (wordGot r)))
 
 abbrev pub isWrong : Said → Bool
 isWrong said.Nothing = false
@@ -157,6 +178,9 @@ isWrong (said.Record k v) = false
 isWrong (said.Byte b) = false
 isWrong (said.Outs n) = false
 isWrong (said.Value a n) = false
+isWrong said.Accepted = false
+isWrong (said.Expected b) = false
+isWrong (said.Refused n) = false
 isWrong (said.Wrong w) = true
 
 -- a line that ends too early; what is wrong with its last word is told of first
@@ -164,8 +188,8 @@ unfoldable pub lateSaid : Bool → First → Said → Said
 lateSaid late job s =
     pick (late && not (isWrong s)) (pick (isJob job) (said.Wrong wrong.TooFew) (said.Wrong wrong.NoValue)) s
 
--- the word ends; where the line ends too, no letter and no job counts any more. A job ends there, or at the next letter or
--- job's word
+-- the word ends; where the line ends too, no letter and no job counts any more. A job ends there, or at the next letter, job's
+-- word or ok; so does a list of bytes that must have come
 unfoldable pub ended : Reading → ℕ → Read
 ended r b = record {
   reading = record {
@@ -179,6 +203,7 @@ ended r b = record {
   };
   said = lateSaid (endsLine b && wordDue r) (wordJob r) (wordSaid r);
   whole = pick (endsLine b || isHead (r .word)) (r .job) first.Nothing;
+  listed = (endsLine b || isHead (r .word)) && sameKind (r .kind) Bytes;
 }
 
 -- a comment goes to the line end
@@ -187,6 +212,7 @@ passed r b = record {
   reading = record { comment = not (eqb b 10); kind = r .kind; due = r .due; word = r .word; part = r .part; job = r .job; got = r .got };
   said = said.Nothing;
   whole = first.Nothing;
+  listed = false;
 }
 
 abbrev pub inside : Reading → ℕ → Read
@@ -194,6 +220,7 @@ inside r b = record {
   reading = record { comment = r .comment; kind = r .kind; due = r .due; word = grown (r .word) b; part = r .part; job = r .job; got = r .got };
   said = said.Nothing;
   whole = first.Nothing;
+  listed = false;
 }
 
 -- one byte of text

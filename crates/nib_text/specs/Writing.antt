@@ -6,7 +6,7 @@ use Rattle.target.specs.Pick.{pick}
 use Rattle.nib_text.specs.Kinds.{sameKind}
 use Rattle.nib_text.specs.Reading.{up}
 use Rattle.nib_text.specs.declared.Kind.{Kind}
-use Rattle.nib_text.specs.declared.Kind.the-variants.{Nothing, Command, Address, DataIn, DataOut, Finish, Protect, Raw}
+use Rattle.nib_text.specs.declared.Kind.the-variants.{Nothing, Command, Address, DataIn, DataOut, Finish, Protect, Raw, Bytes, Refusal, Accepted}
 use Rattle.nib_text.specs.declared.writing.Writing.{Writing}
 use Rattle.nib_text.specs.declared.writing.Value.{Value}
 use Rattle.nib_text.specs.declared.writing.Value.the-variants as value
@@ -33,6 +33,9 @@ recordValue DataOut k v = value.Nothing
 recordValue Finish k v = value.Number v
 recordValue Protect k v = value.Number v
 recordValue Raw k v = value.Pair k v
+recordValue Bytes k v = value.Nothing
+recordValue Refusal k v = value.Nothing
+recordValue Accepted k v = value.Nothing
 
 abbrev pub limitOf : Kind → ℕ
 limitOf Nothing = 1
@@ -43,6 +46,9 @@ limitOf DataOut = 65535
 limitOf Finish = 1
 limitOf Protect = 1
 limitOf Raw = 1
+limitOf Bytes = 1
+limitOf Refusal = 1
+limitOf Accepted = 1
 
 unfoldable pub goesOn : Writing → Kind → Bool
 goesOn w k = sameKind (w .line) k && ltb (w .many) (limitOf k)

@@ -1,11 +1,11 @@
 // Words that name a whole job, and the values that come after each: `read LUN BLOCK PAGE COLUMN`, `read-out LUN COLUMN COUNT`,
-// `program LUN BLOCK PAGE COLUMN` and any number of bytes, `erase LUN BLOCK`, `status LUN COUNT`.
+// `program LUN BLOCK PAGE COLUMN` and any number of bytes, `erase LUN BLOCK`, `status LUN COUNT`. And the word `ok`.
 use jobs::reading::First;
 use slices::byte_at;
 use target::picks::pick_byte;
 ghost use mathlib.Core.Path.{_≡_};
 ghost use Rattle.target.specs.Pick.{pick};
-ghost use Rattle.nib_text.specs.JobWords.{jobNumber, isJob, nameBegun, nameNext, jobNamed, asksNumber, wants, paged, asksOf};
+ghost use Rattle.nib_text.specs.JobWords.{jobNumber, isJob, nameBegun, nameNext, jobNamed, isOk, asksNumber, wants, paged, asksOf};
 
 // What a job's next value is.
 pub enum Asks {
@@ -54,11 +54,12 @@ pub fn is_job(f: First) -> bool
     !(job_number(f) == 0)
 }
 
-// How much of a job's word a word is: a place in the words' letters. This is it after the first byte.
+// How much of a job's word, or of `ok`, a word is: a place in the words' letters. This is it after the first byte.
 pub fn name_begun(b: u8) -> u8
     ensures { λ n. ⌜ n ≡ nameBegun b ⌝ }
 {
-    let n = pick_byte(b == b's', 24, 31);
+    let n = pick_byte(b == b'o', 31, 63);
+    let n = pick_byte(b == b's', 24, n);
     let n = pick_byte(b == b'e', 18, n);
     let n = pick_byte(b == b'p', 10, n);
     pick_byte(b == b'r', 1, n)
@@ -68,11 +69,11 @@ pub fn name_begun(b: u8) -> u8
 pub fn name_next(n: u8, b: u8) -> u8
     ensures { λ r. ⌜ r ≡ nameNext n b ⌝ }
 {
-    let due = byte_at(b"read-out\0program\0erase\0status\0", n as usize);
-    if (b == due) & !(b == 0) & (n < 30) {
+    let due = byte_at(b"read-out\0program\0erase\0status\0ok\0", n as usize);
+    if (b == due) & !(b == 0) & (n < 33) {
         n + 1
     } else {
-        31
+        63
     }
 }
 
@@ -85,6 +86,13 @@ pub fn job_named(n: u8) -> First
     let f = pick_first(n == 16, First::Program, f);
     let f = pick_first(n == 8, First::ReadOut, f);
     pick_first(n == 4, First::Read, f)
+}
+
+// The word `ok`, whole.
+pub fn is_ok(n: u8) -> bool
+    ensures { λ b. ⌜ b ≡ isOk n ⌝ }
+{
+    n == 32
 }
 
 pub fn asks_number(a: Asks) -> u8

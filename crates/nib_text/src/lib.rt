@@ -1,7 +1,8 @@
 // A trace as people write it, one byte of text at a time: what a text means (`reading`), and a trace back as text (`writing`).
 // All by value, with no `requires`. A text is lines of words; `#` begins a comment. A letter says what the values after it
 // are: c commands, a addresses, d data in, x bytes as they are, each of two hex digits; o a count of data outs, f the number of
-// a LUN that finishes, p the level of the protect line, each in decimal. A word of `job_words` says a whole job.
+// a LUN that finishes, p the level of the protect line, each in decimal. A word of `job_words` says a whole job. What must be
+// answered is an expectation, which adds nothing to the trace: = bytes, ! a refusal's number, and the word `ok`.
 pub mod job_words;
 pub mod reading;
 pub mod writing;
@@ -27,6 +28,12 @@ pub enum Kind {
     Protect,
     // x
     Raw,
+    // =, bytes that must have come
+    Bytes,
+    // !, a refusal that must have come
+    Refusal,
+    // after the word `ok`, which takes no value
+    Accepted,
 }
 
 pub fn kind_number(k: Kind) -> u8
@@ -41,6 +48,9 @@ pub fn kind_number(k: Kind) -> u8
         Kind::Finish => 5,
         Kind::Protect => 6,
         Kind::Raw => 7,
+        Kind::Bytes => 8,
+        Kind::Refusal => 9,
+        Kind::Accepted => 10,
     }
 }
 

@@ -4,6 +4,7 @@ use crate::job_words::Asks;
 use crate::job_words::asks_number;
 use crate::job_words::asks_of;
 use crate::job_words::is_job;
+use crate::job_words::is_ok;
 use crate::job_words::job_named;
 use crate::job_words::name_begun;
 use crate::job_words::name_next;
@@ -17,7 +18,7 @@ use target::picks::pick_byte;
 use target::picks::pick_number;
 ghost use mathlib.Core.Path.{_≡_};
 ghost use Rattle.target.specs.Pick.{pick};
-ghost use Rattle.nib_text.specs.Reading.{hexValue, letterOf, isGap, endsLine, more, tenfold, noWord, grown, isLetter, isHead, isByte, isNumber, isCount, byteSaid, numberSaid, countSaid, rawSaid, valueSaid, jobSaid, headSaid, wordSaid, wordKind, wordJob, oneMore, wordGot, wordDue, isWrong, lateSaid, ended, passed, nextOf, begun, up, spotNext, spotBegun};
+ghost use Rattle.nib_text.specs.Reading.{hexValue, letterOf, isGap, endsLine, more, tenfold, noWord, grown, isLetter, isHead, isByte, isNumber, isCount, isRefusal, byteSaid, numberSaid, countSaid, rawSaid, expectedSaid, refusalSaid, valueSaid, jobSaid, headSaid, wordSaid, wordKind, wordJob, oneMore, wordGot, wordDue, isWrong, lateSaid, ended, passed, nextOf, begun, up, spotNext, spotBegun};
 
 // The word under way.
 pub struct Word {
@@ -30,7 +31,7 @@ pub struct Word {
     // its bytes as decimal digits, and whether every byte is one
     pub number: usize,
     pub numbered: bool,
-    // how much of a job's word it is
+    // how much of a job's word, or of `ok`, it is
     pub name: u8,
 }
 
@@ -57,7 +58,7 @@ pub enum Wrong {
     NotByte,
     // not a decimal number, or too large
     NotNumber,
-    // a letter or a job's word where the letter before it wants a value
+    // a letter, a job's word or `ok` where the letter before it wants a value
     Early,
     // a job's word, and no part is given
     NoPart,
@@ -70,9 +71,13 @@ pub enum Wrong {
     NoBlock,
     NoPage,
     NoColumn,
+    // a value after `ok`
+    AfterOk,
+    // no refusal's number after `!`
+    NotRefusal,
 }
 
-// What a byte of text adds to the trace.
+// What a byte of text adds to the trace, or expects of it.
 pub enum Said {
     Nothing,
     Record { kind: u8, value: u8 },
@@ -81,6 +86,12 @@ pub enum Said {
     // a value of the job whose words come
     Value { of: Asks, number: usize },
     Wrong(Wrong),
+    // the word `ok`. It comes after the job and the list that end here
+    Accepted,
+    // a byte more of the list that must have come
+    Expected(u8),
+    // the refusal that must have come
+    Refused(u8),
 }
 
 pub struct Read {
@@ -88,6 +99,8 @@ pub struct Read {
     pub said: Said,
     // the job that ends here, with what is said as its last value. Where the word is wrong it means nothing
     pub whole: First,
+    // a list of bytes that must have come ends here, likewise
+    pub listed: bool,
 }
 
 // Where a text stands: the line and the place of its next byte, and where its last word begins.
@@ -133,7 +146,9 @@ pub fn hex_value(b: u8) -> u8
 pub fn letter_of(b: u8) -> Kind
     ensures { λ r. ⌜ r ≡ letterOf b ⌝ }
 {
-    let k = pick_kind(b == b'x', Kind::Raw, Kind::Nothing);
+    let k = pick_kind(b == b'!', Kind::Refusal, Kind::Nothing);
+    let k = pick_kind(b == b'=', Kind::Bytes, k);
+    let k = pick_kind(b == b'x', Kind::Raw, k);
     let k = pick_kind(b == b'p', Kind::Protect, k);
     let k = pick_kind(b == b'f', Kind::Finish, k);
     let k = pick_kind(b == b'o', Kind::DataOut, k);
@@ -206,11 +221,11 @@ pub fn is_letter(w: Word) -> bool
     (w.length == 1) & !same_kind(letter_of(w.first), Kind::Nothing)
 }
 
-// A letter, or a job's word.
+// A letter, a job's word, or `ok`.
 pub fn is_head(w: Word) -> bool
     ensures { λ r. ⌜ r ≡ isHead w ⌝ }
 {
-    is_letter(w) | is_job(job_named(w.name))
+    is_letter(w) | is_job(job_named(w.name)) | is_ok(w.name)
 }
 
 pub fn is_byte(w: Word) -> bool
@@ -229,6 +244,12 @@ pub fn is_count(w: Word) -> bool
     ensures { λ r. ⌜ r ≡ isCount w ⌝ }
 {
     w.numbered & (w.number < 65536)
+}
+
+pub fn is_refusal(w: Word) -> bool
+    ensures { λ r. ⌜ r ≡ isRefusal w ⌝ }
+{
+    is_number(w) & (0 < w.number)
 }
 
 pub fn byte_said(kind: u8, w: Word) -> Said
@@ -267,6 +288,26 @@ pub fn raw_said(w: Word) -> Said
     pick_said(is_byte(w), Said::Byte(w.hex), Said::Wrong(Wrong::NotByte))
 }
 
+pub fn expected_said(w: Word) -> Said
+    ensures { λ r. ⌜ r ≡ expectedSaid w ⌝ }
+{
+    pick_said(
+        is_byte(w),
+        Said::Expected(w.hex),
+        Said::Wrong(Wrong::NotByte),
+    )
+}
+
+pub fn refusal_said(w: Word) -> Said
+    ensures { λ r. ⌜ r ≡ refusalSaid w ⌝ }
+{
+    if is_refusal(w) {
+        Said::Refused(w.number as u8)
+    } else {
+        Said::Wrong(Wrong::NotRefusal)
+    }
+}
+
 // A word that is no letter.
 pub fn value_said(k: Kind, w: Word) -> Said
     ensures { λ r. ⌜ r ≡ valueSaid k w ⌝ }
@@ -280,6 +321,9 @@ pub fn value_said(k: Kind, w: Word) -> Said
         Kind::Finish => number_said(4, w),
         Kind::Protect => number_said(5, w),
         Kind::Raw => raw_said(w),
+        Kind::Bytes => expected_said(w),
+        Kind::Refusal => refusal_said(w),
+        Kind::Accepted => Said::Wrong(Wrong::AfterOk),
     }
 }
 
@@ -301,7 +345,7 @@ pub fn job_said(a: Asks, w: Word) -> Said
     pick_said(wants(a), counted, rest)
 }
 
-// A letter or a job's word.
+// A letter, a job's word or `ok`.
 pub fn head_said(r: Reading) -> Said
     ensures { λ s. ⌜ s ≡ headSaid r ⌝ }
 {
@@ -313,7 +357,8 @@ pub fn head_said(r: Reading) -> Said
         Said::Wrong(Wrong::Early),
     );
     let unknown = is_job(job_named(w.name)) & !r.part;
-    let s = pick_said(unknown, Said::Wrong(Wrong::NoPart), Said::Nothing);
+    let s = pick_said(is_ok(w.name), Said::Accepted, Said::Nothing);
+    let s = pick_said(unknown, Said::Wrong(Wrong::NoPart), s);
     pick_said(r.due, late, s)
 }
 
@@ -339,7 +384,8 @@ pub fn word_kind(r: Reading) -> Kind
 {
     let w = r.word;
     let k = r.kind;
-    let letter = pick_kind(is_letter(w), letter_of(w.first), Kind::Nothing);
+    let letter = pick_kind(is_ok(w.name), Kind::Accepted, Kind::Nothing);
+    let letter = pick_kind(is_letter(w), letter_of(w.first), letter);
     pick_kind(is_head(w), letter, k)
 }
 
@@ -374,7 +420,8 @@ pub fn word_due(r: Reading) -> bool
 {
     let w = r.word;
     let asked = wants(asks_of(word_job(r), word_got(r)));
-    pick_bool(w.length == 0, r.due, is_head(w) | asked)
+    let named = is_head(w) & !is_ok(w.name);
+    pick_bool(w.length == 0, r.due, named | asked)
 }
 
 pub fn is_wrong(s: Said) -> bool
@@ -387,6 +434,9 @@ pub fn is_wrong(s: Said) -> bool
         Said::Outs(_) => false,
         Said::Value { of: _, number: _ } => false,
         Said::Wrong(_) => true,
+        Said::Accepted => false,
+        Said::Expected(_) => false,
+        Said::Refused(_) => false,
     }
 }
 
@@ -408,6 +458,7 @@ pub fn ended(r: Reading, b: u8) -> Read
 {
     let w = r.word;
     let open = r.job;
+    let letter = r.kind;
     let ends = ends_line(b);
     let due = word_due(r);
     let next = word_job(r);
@@ -415,7 +466,9 @@ pub fn ended(r: Reading, b: u8) -> Read
     let job = pick_first(ends, First::Nothing, next);
     let got = pick_byte(ends, 0, word_got(r));
     let said = late_said(ends & due, next, word_said(r));
-    let whole = pick_first(ends | is_head(w), open, First::Nothing);
+    let over = ends | is_head(w);
+    let whole = pick_first(over, open, First::Nothing);
+    let listed = over & same_kind(letter, Kind::Bytes);
     let word = no_word();
     let reading = Reading {
         comment: b == b'#',
@@ -430,6 +483,7 @@ pub fn ended(r: Reading, b: u8) -> Read
         reading,
         said,
         whole,
+        listed,
     }
 }
 
@@ -445,6 +499,7 @@ pub fn passed(r: Reading, b: u8) -> Read
         reading,
         said: Said::Nothing,
         whole: First::Nothing,
+        listed: false,
     }
 }
 
@@ -459,6 +514,7 @@ pub fn next(r: Reading, b: u8) -> Read
         reading,
         said: Said::Nothing,
         whole: First::Nothing,
+        listed: false,
     };
     let s = pick_read(is_gap(b), ended(r, b), inside);
     pick_read(r.comment, passed(r, b), s)

@@ -69,6 +69,9 @@ pub fn record_value(k: Kind, kind: u8, value: u8) -> Value
         Kind::Finish => Value::Number(value),
         Kind::Protect => Value::Number(value),
         Kind::Raw => Value::Pair { kind, value },
+        Kind::Bytes => Value::Nothing,
+        Kind::Refusal => Value::Nothing,
+        Kind::Accepted => Value::Nothing,
     }
 }
 
@@ -85,6 +88,9 @@ pub fn limit_of(k: Kind) -> usize
         Kind::Finish => 1,
         Kind::Protect => 1,
         Kind::Raw => 1,
+        Kind::Bytes => 1,
+        Kind::Refusal => 1,
+        Kind::Accepted => 1,
     }
 }
 

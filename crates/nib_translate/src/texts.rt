@@ -73,7 +73,7 @@ pub struct Text {
     pub given: usize,
 }
 
-fn text_begun(mute: bool, part: Shape) -> Text {
+pub fn text_begun(mute: bool, part: Shape) -> Text {
     let reading = begun(part.good);
     let spot = spot_begun();
     let pen = begin(STDOUT_FILENO);
@@ -115,11 +115,11 @@ fn add_said(out: &mut Paper, p: Pen, said: Said) -> Pen {
         Said::Outs(n) => outs(out, p, n),
         Said::Value { of: _, number: _ } => p,
         Said::Wrong(_) => p,
+        // what is expected is no part of the trace
+        Said::Accepted => p,
+        Said::Expected(_) => p,
+        Said::Refused(_) => p,
     }
-}
-
-fn added(out: &mut Paper, p: Pen, mute: bool, said: Said) -> Pen {
-    if mute { p } else { add_said(out, p, said) }
 }
 
 // A program's byte, kept. There is room for all that a text holds.
@@ -159,6 +159,9 @@ fn valued(t: Text, said: Said, data: &mut Data) -> Text {
             Text { values, given, ..t }
         }
         Said::Wrong(_) => t,
+        Said::Accepted => t,
+        Said::Expected(_) => t,
+        Said::Refused(_) => t,
     }
 }
 
@@ -200,6 +203,9 @@ fn reason_said(out: &mut Paper, p: Pen, read: Said) -> Pen {
             let n = reason(&mut words, 0, wrong_number(why));
             said(out, p, &words, n)
         }
+        Said::Accepted => p,
+        Said::Expected(_) => p,
+        Said::Refused(_) => p,
     }
 }
 
@@ -238,11 +244,57 @@ fn word_size(word: &mut Last, size: usize, r: Reading, b: u8) -> usize {
     if size < 1000000 { size + 1 } else { size }
 }
 
+// One byte of a text: how far it has come with it, what it says, the job that ends with it, and whether a list of expected bytes
+// does.
+pub struct Step {
+    pub text: Text,
+    pub said: Said,
+    pub job: NamedJob,
+    pub listed: bool,
+}
+
 // The word is bad: it is told of, and nothing more is read.
-fn stopped(t: Text, line: usize, word: &Last, said: Said) -> Text {
+fn stopped(t: Text, line: usize, word: &Last, said: Said) -> Step {
     let spot = t.spot;
     tell_wrong(line, spot, word, t.size, said);
-    Text { going: false, ..t }
+    let text = Text { going: false, ..t };
+    Step {
+        text,
+        said: Said::Nothing,
+        job: NamedJob::Nothing,
+        listed: false,
+    }
+}
+
+pub fn one_byte(t: Text, b: u8, word: &mut Last, data: &mut Data) -> Step {
+    let r = t.reading;
+    let s = t.spot;
+    let g = t.geometry;
+    let size = word_size(word, t.size, r, b);
+    let spot = spot_next(s, r, b);
+    let read = next(r, b);
+    let reading = read.reading;
+    let whole = read.whole;
+    let told = read.said;
+    let said = on_part(g, told);
+    let t = Text {
+        reading,
+        spot,
+        size,
+        ..t
+    };
+    if is_wrong(said) {
+        return stopped(t, s.line, word, said);
+    }
+    let text = valued(t, said, data);
+    let values = text.values;
+    let job = job_of(g, whole, values);
+    Step {
+        text,
+        said,
+        job,
+        listed: read.listed,
+    }
 }
 
 fn text_byte(
@@ -256,34 +308,17 @@ fn text_byte(
     if !t.going {
         return t;
     }
-    let r = t.reading;
-    let s = t.spot;
-    let p = t.pen;
-    let g = t.geometry;
-    let size = word_size(word, t.size, r, b);
-    let spot = spot_next(s, r, b);
-    let read = next(r, b);
-    let reading = read.reading;
-    let whole = read.whole;
-    let told = read.said;
-    let said = on_part(g, told);
-    let pen = added(out, p, t.mute, said);
-    let t = Text {
-        reading,
-        spot,
-        pen,
-        size,
-        ..t
-    };
-    if is_wrong(said) {
-        return stopped(t, s.line, word, said);
-    }
-    let t = valued(t, said, data);
+    let s = one_byte(t, b, word, data);
+    let t = s.text;
+    let said = s.said;
+    let job = s.job;
     if t.mute {
         return t;
     }
-    let values = t.values;
-    let pen = add_named(out, t, job_of(g, whole, values), data, room);
+    let p = t.pen;
+    let pen = add_said(out, p, said);
+    let t = Text { pen, ..t };
+    let pen = add_named(out, t, job, data, room);
     Text { pen, ..t }
 }
 
@@ -312,7 +347,7 @@ fn text_bytes(
     t
 }
 
-// The whole text, and the line end that is read after it. Whether every word is good; a bad one is told of.
+// The whole text, and the line end that is read after it.
 fn text_whole(
     mute: bool,
     part: Shape,
@@ -338,13 +373,24 @@ fn read_text(input: i32, whole: &mut Whole) -> Input {
     )
 }
 
+// Whether every word of a text is good; a bad one is told of.
+pub fn is_good(
+    part: Shape,
+    whole: &[u8],
+    out: &mut Paper,
+    data: &mut Data,
+    room: &mut Room,
+) -> bool {
+    let seen = text_whole(true, part, whole, out, data, room);
+    seen.going
+}
+
 // Looked at once, and then read.
 fn twice(part: Shape, whole: &[u8], n: usize, out: &mut Paper) {
     let n = count(n, whole);
     let mut data = [0u8; 350000];
     let mut room = [0u8; 700014];
-    let seen = text_whole(true, part, &whole[..n], out, &mut data, &mut room);
-    if seen.going {
+    if is_good(part, &whole[..n], out, &mut data, &mut room) {
         let t = text_whole(false, part, &whole[..n], out, &mut data, &mut room);
         let p = t.pen;
         flush(out, p);

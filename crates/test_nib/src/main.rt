@@ -115,6 +115,61 @@ fn folders() {
     );
 }
 
+// On part TINY, made by `folders`.
+fn scripts() {
+    tried(
+        b"text again, of what holds",
+        Asked::TextOn,
+        b"again",
+        b"",
+        b"held_script",
+    );
+    tried(
+        b"test again, what fails",
+        Asked::Test,
+        b"again",
+        b"",
+        b"failed_script",
+    );
+    tried(
+        b"test again, a bad word",
+        Asked::Test,
+        b"again",
+        b"",
+        b"bad_script",
+    );
+    tried(b"explain again", Asked::Explain, b"again", b"", b"look");
+    tried(
+        b"test again, what holds",
+        Asked::Test,
+        b"again",
+        b"",
+        b"held_script",
+    );
+    tried(
+        b"explain again, after what held",
+        Asked::Explain,
+        b"again",
+        b"",
+        b"look",
+    );
+    tried(
+        b"test again, what fails now",
+        Asked::Test,
+        b"again",
+        b"",
+        b"failed_script",
+    );
+    tried(
+        b"explain again, after what failed",
+        Asked::Explain,
+        b"again",
+        b"",
+        b"look",
+    );
+    tried(b"test dark", Asked::Test, b"dark", b"", b"held_script");
+}
+
 fn main() {
     texts();
     jobs();
@@ -122,4 +177,5 @@ fn main() {
     pages();
     checks();
     folders();
+    scripts();
 }

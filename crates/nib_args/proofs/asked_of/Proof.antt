@@ -17,17 +17,23 @@ dashed-requires c κs = search needs
 pick-asked-requires : tie.Need-pick-asked-requires
 pick-asked-requires c κs = search needs
 
-with-one-requires : tie.Need-with-one-requires
-with-one-requires c κs = search needs
+with-two-requires : tie.Need-with-two-requires
+with-two-requires c κs = search needs
 
 pick-asked-requires-2 : tie.Need-pick-asked-requires-2
 pick-asked-requires-2 c κs = search needs
 
-alone-requires : tie.Need-alone-requires
-alone-requires c κs = search needs
+with-one-requires : tie.Need-with-one-requires
+with-one-requires c κs = search needs
 
 pick-asked-requires-3 : tie.Need-pick-asked-requires-3
 pick-asked-requires-3 c κs = search needs
+
+alone-requires : tie.Need-alone-requires
+alone-requires c κs = search needs
+
+pick-asked-requires-4 : tie.Need-pick-asked-requires-4
+pick-asked-requires-4 c κs = search needs
 
 returns : tie.Need-returns
 unfolding askedOf
@@ -38,14 +44,18 @@ returns c =
     let c4 = c3 .before in
     let c5 = c4 .before in
     let c6 = c5 .before in
+    let c7 = c6 .before in
+    let c8 = c7 .before in
     rw (
-      c .pick-asked3 .ensures,
+      c .pick-asked4 .ensures,
       c1 .alone .ensures,
-      c2 .pick-asked2 .ensures,
+      c2 .pick-asked3 .ensures,
       c3 .with-one .ensures,
-      c4 .pick-asked .ensures,
-      c5 .dashed .ensures,
-      c6 .is-word .ensures,
+      c4 .pick-asked2 .ensures,
+      c5 .with-two .ensures,
+      c6 .pick-asked .ensures,
+      c7 .dashed .ensures,
+      c8 .is-word .ensures,
     )
 
 pub asked-of-spec : {M : Type 1} → statement M
@@ -56,8 +66,10 @@ asked-of-spec =
     is-word-requires
     dashed-requires
     pick-asked-requires
-    with-one-requires
+    with-two-requires
     pick-asked-requires-2
-    alone-requires
+    with-one-requires
     pick-asked-requires-3
+    alone-requires
+    pick-asked-requires-4
     returns)

@@ -68,6 +68,15 @@ is-word-requires-7 c κs = search needs
 pick-asked-requires-7 : tie.Need-pick-asked-requires-7
 pick-asked-requires-7 c κs = search needs
 
+slice-aggregate-is-word-8 : tie.Need-slice-aggregate-is-word-8
+slice-aggregate-is-word-8 c = search needs
+
+is-word-requires-8 : tie.Need-is-word-requires-8
+is-word-requires-8 c κs = search needs
+
+pick-asked-requires-8 : tie.Need-pick-asked-requires-8
+pick-asked-requires-8 c κs = search needs
+
 returns : tie.Need-returns
 unfolding named
 returns c =
@@ -84,21 +93,25 @@ returns c =
     let c16 = c15 .before in
     let c18 = c16 .before .before in
     let c19 = c18 .before in
+    let c21 = c19 .before .before in
+    let c22 = c21 .before in
     rw (
-      c .pick-asked7 .ensures,
-      c1 .is-word7 .ensures,
-      c3 .pick-asked6 .ensures,
-      c4 .is-word6 .ensures,
-      c6 .pick-asked5 .ensures,
-      c7 .is-word5 .ensures,
-      c9 .pick-asked4 .ensures,
-      c10 .is-word4 .ensures,
-      c12 .pick-asked3 .ensures,
-      c13 .is-word3 .ensures,
-      c15 .pick-asked2 .ensures,
-      c16 .is-word2 .ensures,
-      c18 .pick-asked .ensures,
-      c19 .is-word .ensures,
+      c .pick-asked8 .ensures,
+      c1 .is-word8 .ensures,
+      c3 .pick-asked7 .ensures,
+      c4 .is-word7 .ensures,
+      c6 .pick-asked6 .ensures,
+      c7 .is-word6 .ensures,
+      c9 .pick-asked5 .ensures,
+      c10 .is-word5 .ensures,
+      c12 .pick-asked4 .ensures,
+      c13 .is-word4 .ensures,
+      c15 .pick-asked3 .ensures,
+      c16 .is-word3 .ensures,
+      c18 .pick-asked2 .ensures,
+      c19 .is-word2 .ensures,
+      c21 .pick-asked .ensures,
+      c22 .is-word .ensures,
     )
 
 pub named-spec : {M : Type 1} → statement M
@@ -126,4 +139,7 @@ named-spec =
     slice-aggregate-is-word-7
     is-word-requires-7
     pick-asked-requires-7
+    slice-aggregate-is-word-8
+    is-word-requires-8
+    pick-asked-requires-8
     returns)

@@ -79,6 +79,18 @@ slice-aggregate-say-if-12 c = search needs
 say-if-requires-12 : tie.Need-say-if-requires-12
 say-if-requires-12 c κs = search needs
 
+slice-aggregate-say-if-13 : tie.Need-slice-aggregate-say-if-13
+slice-aggregate-say-if-13 c = search needs
+
+say-if-requires-13 : tie.Need-say-if-requires-13
+say-if-requires-13 c κs = search needs
+
+slice-aggregate-say-if-14 : tie.Need-slice-aggregate-say-if-14
+slice-aggregate-say-if-14 c = search needs
+
+say-if-requires-14 : tie.Need-say-if-requires-14
+say-if-requires-14 c κs = search needs
+
 same-length : tie.Need-same-length
 same-length c =
     let c2 = c .before .before in
@@ -93,7 +105,9 @@ same-length c =
     let c47 = c42 .before .before .before .before .before in
     let c52 = c47 .before .before .before .before .before in
     let c57 = c52 .before .before .before .before .before in
-    c2 .say-if12 .kept .0 ∙ c7 .say-if11 .kept .0 ∙ c12 .say-if10 .kept .0 ∙ c17 .say-if9 .kept .0 ∙ c22 .say-if8 .kept .0 ∙ c27 .say-if7 .kept .0 ∙ c32 .say-if6 .kept .0 ∙ c37 .say-if5 .kept .0 ∙ c42 .say-if4 .kept .0 ∙ c47 .say-if3 .kept .0 ∙ c52 .say-if2 .kept .0 ∙ c57 .say-if .kept .0
+    let c62 = c57 .before .before .before .before .before in
+    let c67 = c62 .before .before .before .before .before in
+    c2 .say-if14 .kept .0 ∙ c7 .say-if13 .kept .0 ∙ c12 .say-if12 .kept .0 ∙ c17 .say-if11 .kept .0 ∙ c22 .say-if10 .kept .0 ∙ c27 .say-if9 .kept .0 ∙ c32 .say-if8 .kept .0 ∙ c37 .say-if7 .kept .0 ∙ c42 .say-if6 .kept .0 ∙ c47 .say-if5 .kept .0 ∙ c52 .say-if4 .kept .0 ∙ c57 .say-if3 .kept .0 ∙ c62 .say-if2 .kept .0 ∙ c67 .say-if .kept .0
 
 returns : tie.Need-returns
 unfolding reasonWords
@@ -110,18 +124,22 @@ returns c =
     let c47 = c42 .before .before .before .before .before in
     let c52 = c47 .before .before .before .before .before in
     let c57 = c52 .before .before .before .before .before in
-    then _ _ _ _ _ (c57 .say-if .ensures)
-    (then _ _ _ _ _ (c52 .say-if2 .ensures)
-    (then _ _ _ _ _ (c47 .say-if3 .ensures)
-    (then _ _ _ _ _ (c42 .say-if4 .ensures)
-    (then _ _ _ _ _ (c37 .say-if5 .ensures)
-    (then _ _ _ _ _ (c32 .say-if6 .ensures)
-    (then _ _ _ _ _ (c27 .say-if7 .ensures)
-    (then _ _ _ _ _ (c22 .say-if8 .ensures)
-    (then _ _ _ _ _ (c17 .say-if9 .ensures)
-    (then _ _ _ _ _ (c12 .say-if10 .ensures)
-    (then _ _ _ _ _ (c7 .say-if11 .ensures)
-    (c2 .say-if12 .ensures)))))))))))
+    let c62 = c57 .before .before .before .before .before in
+    let c67 = c62 .before .before .before .before .before in
+    then _ _ _ _ _ (c67 .say-if .ensures)
+    (then _ _ _ _ _ (c62 .say-if2 .ensures)
+    (then _ _ _ _ _ (c57 .say-if3 .ensures)
+    (then _ _ _ _ _ (c52 .say-if4 .ensures)
+    (then _ _ _ _ _ (c47 .say-if5 .ensures)
+    (then _ _ _ _ _ (c42 .say-if6 .ensures)
+    (then _ _ _ _ _ (c37 .say-if7 .ensures)
+    (then _ _ _ _ _ (c32 .say-if8 .ensures)
+    (then _ _ _ _ _ (c27 .say-if9 .ensures)
+    (then _ _ _ _ _ (c22 .say-if10 .ensures)
+    (then _ _ _ _ _ (c17 .say-if11 .ensures)
+    (then _ _ _ _ _ (c12 .say-if12 .ensures)
+    (then _ _ _ _ _ (c7 .say-if13 .ensures)
+    (c2 .say-if14 .ensures)))))))))))))
 
 pub reason-spec : {M : Type 1} → statement M
 reason-spec =
@@ -151,5 +169,9 @@ reason-spec =
     say-if-requires-11
     slice-aggregate-say-if-12
     say-if-requires-12
+    slice-aggregate-say-if-13
+    say-if-requires-13
+    slice-aggregate-say-if-14
+    say-if-requires-14
     same-length
     returns)

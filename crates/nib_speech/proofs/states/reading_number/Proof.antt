@@ -47,9 +47,6 @@ mul-result-3 c = search needs
 add-result-3 : tie.Need-add-result-3
 add-result-3 c = search needs
 
-kind-number-requires : tie.Need-kind-number-requires
-kind-number-requires c κs = search needs
-
 cast-result-5 : tie.Need-cast-result-5
 cast-result-5 c = search needs
 
@@ -77,23 +74,23 @@ mul-result-6 c = search needs
 add-result-6 : tie.Need-add-result-6
 add-result-6 c = search needs
 
-cast-result-8 : tie.Need-cast-result-8
-cast-result-8 c = search needs
-
 mul-result-7 : tie.Need-mul-result-7
 mul-result-7 c = search needs
 
 add-result-7 : tie.Need-add-result-7
 add-result-7 c = search needs
 
+set-bit-requires-5 : tie.Need-set-bit-requires-5
+set-bit-requires-5 c κs = search needs
+
+cast-result-8 : tie.Need-cast-result-8
+cast-result-8 c = search needs
+
 mul-result-8 : tie.Need-mul-result-8
 mul-result-8 c = search needs
 
 add-result-8 : tie.Need-add-result-8
 add-result-8 c = search needs
-
-set-bit-requires-5 : tie.Need-set-bit-requires-5
-set-bit-requires-5 c κs = search needs
 
 cast-result-9 : tie.Need-cast-result-9
 cast-result-9 c = search needs
@@ -113,6 +110,9 @@ mul-result-10 c = search needs
 add-result-10 : tie.Need-add-result-10
 add-result-10 c = search needs
 
+job-number-requires : tie.Need-job-number-requires
+job-number-requires c κs = search needs
+
 cast-result-11 : tie.Need-cast-result-11
 cast-result-11 c = search needs
 
@@ -122,8 +122,8 @@ mul-result-11 c = search needs
 add-result-11 : tie.Need-add-result-11
 add-result-11 c = search needs
 
-job-number-requires : tie.Need-job-number-requires
-job-number-requires c κs = search needs
+kind-number-requires : tie.Need-kind-number-requires
+kind-number-requires c κs = search needs
 
 cast-result-12 : tie.Need-cast-result-12
 cast-result-12 c = search needs
@@ -156,7 +156,6 @@ reading-number-spec =
     cast-result-4
     mul-result-3
     add-result-3
-    kind-number-requires
     cast-result-5
     mul-result-4
     add-result-4
@@ -166,22 +165,23 @@ reading-number-spec =
     cast-result-7
     mul-result-6
     add-result-6
-    cast-result-8
     mul-result-7
     add-result-7
+    set-bit-requires-5
+    cast-result-8
     mul-result-8
     add-result-8
-    set-bit-requires-5
     cast-result-9
     mul-result-9
     add-result-9
     cast-result-10
     mul-result-10
     add-result-10
+    job-number-requires
     cast-result-11
     mul-result-11
     add-result-11
-    job-number-requires
+    kind-number-requires
     cast-result-12
     mul-result-12
     add-result-12

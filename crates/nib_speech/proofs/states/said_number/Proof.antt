@@ -70,6 +70,27 @@ cast-result-5 c = search needs
 add-result-7 : tie.Need-add-result-7
 add-result-7 c = search needs
 
+enum-told-2 : tie.Need-enum-told-2
+enum-told-2 c = search needs
+
+enum-known-s-6 : tie.Need-enum-known-s-6
+enum-known-s-6 c = search needs
+
+cast-result-6 : tie.Need-cast-result-6
+cast-result-6 c = search needs
+
+add-result-8 : tie.Need-add-result-8
+add-result-8 c = search needs
+
+enum-known-s-7 : tie.Need-enum-known-s-7
+enum-known-s-7 c = search needs
+
+cast-result-7 : tie.Need-cast-result-7
+cast-result-7 c = search needs
+
+add-result-9 : tie.Need-add-result-9
+add-result-9 c = search needs
+
 returns : tie.Need-returns
 returns c = search needs
 
@@ -104,6 +125,19 @@ returns-6 c =
       c2 .s5 .given .1,
     )
 
+returns-7 : tie.Need-returns-7
+returns-7 c = search needs
+
+returns-8 : tie.Need-returns-8
+returns-8 c =
+    let c1 = c .before in
+    rw (c1 .s6 .given .1)
+
+returns-9 : tie.Need-returns-9
+returns-9 c =
+    let c1 = c .before in
+    rw (c1 .s7 .given .1)
+
 pub said-number-spec : {M : Type 1} → statement M
 said-number-spec =
     tie.close
@@ -130,9 +164,19 @@ said-number-spec =
     wrong-number-requires
     cast-result-5
     add-result-7
+    enum-told-2
+    enum-known-s-6
+    cast-result-6
+    add-result-8
+    enum-known-s-7
+    cast-result-7
+    add-result-9
     returns
     returns-2
     returns-3
     returns-4
     returns-5
-    returns-6)
+    returns-6
+    returns-7
+    returns-8
+    returns-9)

@@ -19,8 +19,8 @@ byte-at-requires c κs = search needs
 add-result : tie.Need-add-result
 add-result c =
     let a = c .before .before .before .args in
-    let tests = both3 (eqb (a .b) (c .before .byte-at .result)) (not (eqb (a .b) 0)) (ltb (a .n) 30) (c .if1 .taken) in
-    omega (arith, ltb-true (a .n) 30 (tests .2))
+    let tests = both3 (eqb (a .b) (c .before .byte-at .result)) (not (eqb (a .b) 0)) (ltb (a .n) 33) (c .if1 .taken) in
+    omega (arith, ltb-true (a .n) 33 (tests .2))
 
 returns : tie.Need-returns
 unfolding nameNext

@@ -41,6 +41,9 @@ is-head-requires c κs = search needs
 pick-first-requires-2 : tie.Need-pick-first-requires-2
 pick-first-requires-2 c κs = search needs
 
+same-kind-requires : tie.Need-same-kind-requires
+same-kind-requires c κs = search needs
+
 no-word-requires : tie.Need-no-word-requires
 no-word-requires c κs = search needs
 
@@ -59,20 +62,22 @@ returns c =
     let c10 = c9 .before in
     let c11 = c10 .before in
     let c12 = c11 .before in
+    let c13 = c12 .before in
     rw (
       c .no-word .ensures,
-      c1 .pick-first2 .ensures,
-      c2 .is-head .ensures,
-      c3 .late-said .ensures,
-      c4 .word-said .ensures,
-      c5 .pick-byte .ensures,
-      c6 .word-got .ensures,
-      c7 .pick-first .ensures,
-      c8 .pick-kind .ensures,
-      c9 .word-kind .ensures,
-      c10 .word-job .ensures,
-      c11 .word-due .ensures,
-      c12 .ends-line .ensures,
+      c1 .same-kind .ensures,
+      c2 .pick-first2 .ensures,
+      c3 .is-head .ensures,
+      c4 .late-said .ensures,
+      c5 .word-said .ensures,
+      c6 .pick-byte .ensures,
+      c7 .word-got .ensures,
+      c8 .pick-first .ensures,
+      c9 .pick-kind .ensures,
+      c10 .word-kind .ensures,
+      c11 .word-job .ensures,
+      c12 .word-due .ensures,
+      c13 .ends-line .ensures,
     )
 
 pub ended-spec : {M : Type 1} → statement M
@@ -91,5 +96,6 @@ ended-spec =
     late-said-requires
     is-head-requires
     pick-first-requires-2
+    same-kind-requires
     no-word-requires
     returns)

@@ -17,27 +17,37 @@ job-named-requires c κs = search needs
 is-job-requires-2 : tie.Need-is-job-requires-2
 is-job-requires-2 c κs = search needs
 
+is-ok-requires : tie.Need-is-ok-requires
+is-ok-requires c κs = search needs
+
 pick-said-requires-2 : tie.Need-pick-said-requires-2
 pick-said-requires-2 c κs = search needs
 
 pick-said-requires-3 : tie.Need-pick-said-requires-3
 pick-said-requires-3 c κs = search needs
 
+pick-said-requires-4 : tie.Need-pick-said-requires-4
+pick-said-requires-4 c κs = search needs
+
 returns : tie.Need-returns
 unfolding headSaid
 returns c =
     let c1 = c .before in
-    let c3 = c1 .before .before in
-    let c4 = c3 .before in
-    let c5 = c4 .before in
+    let c2 = c1 .before in
+    let c3 = c2 .before in
+    let c5 = c3 .before .before in
     let c6 = c5 .before in
+    let c7 = c6 .before in
+    let c8 = c7 .before in
     rw (
-      c .pick-said3 .ensures,
-      c1 .pick-said2 .ensures,
-      c3 .is-job2 .ensures,
-      c4 .job-named .ensures,
-      c5 .pick-said .ensures,
-      c6 .is-job .ensures,
+      c .pick-said4 .ensures,
+      c1 .pick-said3 .ensures,
+      c2 .pick-said2 .ensures,
+      c3 .is-ok .ensures,
+      c5 .is-job2 .ensures,
+      c6 .job-named .ensures,
+      c7 .pick-said .ensures,
+      c8 .is-job .ensures,
     )
 
 pub head-said-spec : {M : Type 1} → statement M
@@ -48,6 +58,8 @@ head-said-spec =
     pick-said-requires
     job-named-requires
     is-job-requires-2
+    is-ok-requires
     pick-said-requires-2
     pick-said-requires-3
+    pick-said-requires-4
     returns)

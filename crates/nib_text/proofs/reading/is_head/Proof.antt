@@ -14,16 +14,23 @@ job-named-requires c κs = search needs
 is-job-requires : tie.Need-is-job-requires
 is-job-requires c κs = search needs
 
+is-ok-requires : tie.Need-is-ok-requires
+is-ok-requires c κs = search needs
+
 returns : tie.Need-returns
 unfolding isHead
 returns c =
     let c1 = c .before in
     let c2 = c1 .before in
+    let c3 = c2 .before in
     rw (
-      c .is-job .ensures,
-      c1 .job-named .ensures,
-      c2 .is-letter .ensures,
+      c .is-ok .ensures,
+      c1 .is-job .ensures,
+      c2 .job-named .ensures,
+      c3 .is-letter .ensures,
     )
 
 pub is-head-spec : {M : Type 1} → statement M
-is-head-spec = tie.close (tie.spec is-letter-requires job-named-requires is-job-requires returns)
+is-head-spec =
+    tie.close
+    (tie.spec is-letter-requires job-named-requires is-job-requires is-ok-requires returns)

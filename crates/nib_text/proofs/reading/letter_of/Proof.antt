@@ -26,6 +26,12 @@ pick-kind-requires-6 c κs = search needs
 pick-kind-requires-7 : tie.Need-pick-kind-requires-7
 pick-kind-requires-7 c κs = search needs
 
+pick-kind-requires-8 : tie.Need-pick-kind-requires-8
+pick-kind-requires-8 c κs = search needs
+
+pick-kind-requires-9 : tie.Need-pick-kind-requires-9
+pick-kind-requires-9 c κs = search needs
+
 returns : tie.Need-returns
 unfolding letterOf
 returns c =
@@ -35,14 +41,18 @@ returns c =
     let c4 = c3 .before in
     let c5 = c4 .before in
     let c6 = c5 .before in
+    let c7 = c6 .before in
+    let c8 = c7 .before in
     rw (
-      c .pick-kind7 .ensures,
-      c1 .pick-kind6 .ensures,
-      c2 .pick-kind5 .ensures,
-      c3 .pick-kind4 .ensures,
-      c4 .pick-kind3 .ensures,
-      c5 .pick-kind2 .ensures,
-      c6 .pick-kind .ensures,
+      c .pick-kind9 .ensures,
+      c1 .pick-kind8 .ensures,
+      c2 .pick-kind7 .ensures,
+      c3 .pick-kind6 .ensures,
+      c4 .pick-kind5 .ensures,
+      c5 .pick-kind4 .ensures,
+      c6 .pick-kind3 .ensures,
+      c7 .pick-kind2 .ensures,
+      c8 .pick-kind .ensures,
     )
 
 pub letter-of-spec : {M : Type 1} → statement M
@@ -56,4 +66,6 @@ letter-of-spec =
     pick-kind-requires-5
     pick-kind-requires-6
     pick-kind-requires-7
+    pick-kind-requires-8
+    pick-kind-requires-9
     returns)

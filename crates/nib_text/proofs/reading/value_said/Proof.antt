@@ -49,6 +49,21 @@ enum-told-8 c = search needs
 raw-said-requires : tie.Need-raw-said-requires
 raw-said-requires c κs = search needs
 
+enum-told-9 : tie.Need-enum-told-9
+enum-told-9 c = search needs
+
+expected-said-requires : tie.Need-expected-said-requires
+expected-said-requires c κs = search needs
+
+enum-told-10 : tie.Need-enum-told-10
+enum-told-10 c = search needs
+
+refusal-said-requires : tie.Need-refusal-said-requires
+refusal-said-requires c κs = search needs
+
+enum-told-11 : tie.Need-enum-told-11
+enum-told-11 c = search needs
+
 returns : tie.Need-returns
 returns c =
     rw (c .enum-told .given .1)
@@ -109,6 +124,26 @@ returns-8 c =
       c1 .enum-told8 .given .1,
     )
 
+returns-9 : tie.Need-returns-9
+returns-9 c =
+    let c1 = c .before in
+    rw (
+      c .expected-said .ensures,
+      c1 .enum-told9 .given .1,
+    )
+
+returns-10 : tie.Need-returns-10
+returns-10 c =
+    let c1 = c .before in
+    rw (
+      c .refusal-said .ensures,
+      c1 .enum-told10 .given .1,
+    )
+
+returns-11 : tie.Need-returns-11
+returns-11 c =
+    rw (c .enum-told11 .given .1)
+
 pub value-said-spec : {M : Type 1} → statement M
 value-said-spec =
     tie.close
@@ -128,6 +163,11 @@ value-said-spec =
     number-said-requires-2
     enum-told-8
     raw-said-requires
+    enum-told-9
+    expected-said-requires
+    enum-told-10
+    refusal-said-requires
+    enum-told-11
     returns
     returns-2
     returns-3
@@ -135,4 +175,7 @@ value-said-spec =
     returns-5
     returns-6
     returns-7
-    returns-8)
+    returns-8
+    returns-9
+    returns-10
+    returns-11)

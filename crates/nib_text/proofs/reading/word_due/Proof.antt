@@ -20,24 +20,29 @@ wants-requires c κs = search needs
 is-head-requires : tie.Need-is-head-requires
 is-head-requires c κs = search needs
 
+is-ok-requires : tie.Need-is-ok-requires
+is-ok-requires c κs = search needs
+
 pick-bool-requires : tie.Need-pick-bool-requires
 pick-bool-requires c κs = search needs
 
 returns : tie.Need-returns
 unfolding wordDue
 returns c =
-    let c1 = c .before in
-    let c3 = c1 .before .before in
+    let c2 = c .before .before in
+    let c3 = c2 .before in
     let c4 = c3 .before in
     let c5 = c4 .before in
     let c6 = c5 .before in
+    let c7 = c6 .before in
     rw (
       c .pick-bool .ensures,
-      c1 .is-head .ensures,
-      c3 .wants .ensures,
-      c4 .asks-of .ensures,
-      c5 .word-got .ensures,
-      c6 .word-job .ensures,
+      c2 .is-ok .ensures,
+      c3 .is-head .ensures,
+      c4 .wants .ensures,
+      c5 .asks-of .ensures,
+      c6 .word-got .ensures,
+      c7 .word-job .ensures,
     )
 
 pub word-due-spec : {M : Type 1} → statement M
@@ -49,5 +54,6 @@ word-due-spec =
     asks-of-requires
     wants-requires
     is-head-requires
+    is-ok-requires
     pick-bool-requires
     returns)
