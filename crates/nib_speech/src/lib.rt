@@ -1,5 +1,6 @@
 // For hosts: the grammar of a trace as text and the words of `explain` and `jobs`, over plain numbers and lent bytes, so that no
 // host writes them a second time. What is read or written so far is a number, which is 0 where a text or a trace begins.
+pub mod folds;
 pub mod pieces;
 pub mod states;
 
@@ -87,7 +88,7 @@ pub extern "C" fn nib_text_job(state: u64, byte: u8) -> u8
 }
 
 // The sizes of a part; `columns` is its page size P.
-fn sizes(luns: usize, blocks: usize, pages: usize, columns: u16) -> Geometry
+pub fn sizes(luns: usize, blocks: usize, pages: usize, columns: u16) -> Geometry
     ensures { λ g. ⌜ g ≡ sizes luns blocks pages columns ⌝ }
 {
     Geometry {
