@@ -36,14 +36,14 @@ pub fn status_words(out: &mut [u8], at: usize, b: u8) -> usize
 }
 
 // 06h and 78h, by their numbers in the list of first commands.
-fn lun_alone(first: u8) -> bool
+fn lun_alone(first: usize) -> bool
     ensures { λ b. ⌜ b ≡ lunAlone first ⌝ }
 {
     (first == 2) | (first == 5)
 }
 
 // A row, and as much of it as the command looks at: LUN, block and page, 60h not the page, 06h and 78h the LUN alone.
-pub fn row_at(out: &mut [u8], at: usize, first: u8, g: Geometry, row: usize) -> usize
+pub fn row_at(out: &mut [u8], at: usize, first: usize, g: Geometry, row: usize) -> usize
     ensures { λ r. ⌜ _≡_ {A = Desk} (record { room = now (out .exit); at = r }) (wrote (record { room = now (out .entry); at = at }) (rowAt first g row)) ⌝ }
 {
     let lun = lun_of(g, Row(row));

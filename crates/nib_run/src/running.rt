@@ -147,7 +147,7 @@ fn row_words(out: &mut Paper, p: Pen, t: Target, k: RowGiven) -> Pen {
     let g = t.geometry;
     let first = k.first;
     let row = k.row;
-    let n = row_at(&mut words, 0, place_of(first) as u8, g, row.0);
+    let n = row_at(&mut words, 0, place_of(first), g, row.0);
     let p = text(out, p, b"  ");
     said(out, p, &words, n)
 }
@@ -199,7 +199,11 @@ fn answer(out: &mut Paper, p: Pen, e: Event, room: [u8; 2], t: Target) -> Pen {
 }
 
 // What is held back, as one line: the number of the run's first record, its cycles, their replies.
-fn run_line(out: &mut Paper, p: Pen, h: Held, shown: &[u8], begun: usize) -> Pen {
+fn run_line(out: &mut Paper, p: Pen, h: Held, shown: Shown, begun: usize) -> Pen {
+    shown_line(out, p, h, &shown, begun)
+}
+
+fn shown_line(out: &mut Paper, p: Pen, h: Held, shown: &[u8], begun: usize) -> Pen {
     let mut words = [0u8; 128];
     let k = count(h.count, shown);
     let p = ranked(out, p, begun);
@@ -219,7 +223,7 @@ fn let_out(out: &mut Paper, s: Stream, goes: bool) -> Stream {
     let p = s.pen;
     let h = s.held;
     let shown = s.shown;
-    let pen = run_line(out, p, h, &shown, s.begun);
+    let pen = run_line(out, p, h, shown, s.begun);
     let held = nothing_held();
     Stream { pen, held, ..s }
 }
@@ -243,10 +247,16 @@ fn hold(s: Stream, number: usize, run: Run, b: u8) -> Stream {
     }
 }
 
-fn counted(s: Stream, room: [u8; 2]) -> Stream {
-    let mut counts = s.tally;
+fn counted(from: Tally, room: [u8; 2]) -> Tally {
+    let mut counts = from;
     tally(&mut counts, room[0], room[1]);
-    Stream { tally: counts, ..s }
+    counts
+}
+
+fn with_counted(s: Stream, room: [u8; 2]) -> Stream {
+    let counts = s.tally;
+    let tally = counted(counts, room);
+    Stream { tally, ..s }
 }
 
 fn told_alone(out: &mut Paper, s: Stream, number: usize, odd: bool, e: Event, room: [u8; 2]) -> Stream {
@@ -269,7 +279,7 @@ fn explained(out: &mut Paper, s: Stream, number: usize, odd: bool, e: Event, roo
     let b = carried(e.kind, e.value, room[1]);
     let h = s.held;
     let s = let_out(out, s, goes_out(h, run, b));
-    let s = counted(s, room);
+    let s = with_counted(s, room);
     if run_number(run) == 0 {
         told_alone(out, s, number, odd, e, room)
     } else {
@@ -293,9 +303,9 @@ fn drained(out: &mut Paper, s: Stream) -> Stream {
     let_out(out, s, 0 < h.count)
 }
 
-fn tally_line(out: &mut Paper, p: Pen, events: usize, counts: &[usize]) -> Pen {
+fn tally_line(out: &mut Paper, p: Pen, events: usize, counts: Tally) -> Pen {
     let mut words = [0u8; 512];
-    let n = tally_words(&mut words, 0, events, counts);
+    let n = tally_words(&mut words, 0, events, &counts);
     let n = count(n, &words);
     let p = text(out, p, &words[..n]);
     end_line(out, p)
@@ -309,7 +319,7 @@ fn ended(out: &mut Paper, s: Stream) -> Stream {
     let s = drained(out, s);
     let p = s.pen;
     let counts = s.tally;
-    let pen = tally_line(out, p, s.number, &counts);
+    let pen = tally_line(out, p, s.number, counts);
     Stream { pen, ..s }
 }
 

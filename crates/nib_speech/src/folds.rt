@@ -110,7 +110,7 @@ pub extern "C" fn nib_say_row(
 ) -> usize
     ensures { λ r. ⌜ _≡_ {A = Desk} (record { room = now (out .exit); at = r }) (wrote (record { room = now (out .entry); at = 0 }) (rowAt first (sizes luns blocks pages 0) row)) ⌝ }
 {
-    row_at(out, 0, first, sizes(luns, blocks, pages, 0), row)
+    row_at(out, 0, first as usize, sizes(luns, blocks, pages, 0), row)
 }
 
 // A status byte in words.
