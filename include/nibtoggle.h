@@ -606,7 +606,8 @@ size_t nib_say_rule(uint8_t number, uint8_t *out, size_t length);
 /* Why a word of a text is bad. */
 size_t nib_say_wrong(uint8_t which, uint8_t *out, size_t length);
 
-/* A status byte in words, as `ready, FAIL`: where a data out gave it, with t->output NIB_OUTPUT_STATUS before the event. */
+/* A status byte in words, as `ready, FAIL`: where a data out gave it, t->output being NIB_OUTPUT_STATUS before the
+ * event. */
 size_t nib_say_status(uint8_t byte, uint8_t *out, size_t length);
 
 /* A row in words, with as much of it as its command looks at, as `row 000037h: LUN 1, block 5, page 3`: at the address

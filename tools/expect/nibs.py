@@ -23,8 +23,8 @@ FOLDS = ('c ff  c 80  a 00 00 0a 00 00  d 01  c ff\n'                           
          'c ec  a 00  o 17  c ec  a 00  o 768  o 1  c ec  a 00  o 768  c ec  a 00  o 768\n'    # more than 16; across pieces
          'c 90  a 20  o 4  c ee  a 01  o 4  o 1  c ef  a 01  d 40 00 00 00\n'       # signature, feature, and past its end
          'p 0  c 70  o 2  p 1  d 01  o 1  d 02  o 2')                              # line low; refused ones are not folded
-ROWS = ('c ff  c 00  a 00 00 05 00 00  c 60  a 0b 00 00  c 06  a 00 00 09 00 00  c 78  a 0c 00 00  o 1  c 80  a 00 00 03 00 00\n'
-        'c ff  c 85  a 00 00 07 00 00  c 00  a 00 00 ff ff ff  c 60  a 04 00 00  c d0  c 78  a 04 00 00  o 2  f 0  o 2\n')
+ROWS = ('c ff  c 00  a 00 00 05 00 00  c ff  c 60  a 0b 00 00  c ff  c 80  a 00 00 03 00 00  c ff  c 78  a 0c 00 00  o 1\n'
+        'c 06  a 00  c 00  a 00 00 ff ff ff  c 60  a 04 00 00  c d0  c 78  a 04 00 00  o 2  f 0  o 2\n')
 KINDS = {'c': 0, 'a': 1, 'd': 2, 'f': 4, 'p': 5}
 #: The jobs' words: first command, last command, and the values after the word.
 JOBS = {'read': (0x00, 0x30, 'lun block page column'), 'read-out': (0x06, 0xE0, 'lun column count'),
