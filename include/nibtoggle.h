@@ -613,6 +613,31 @@ size_t nib_say_rule(uint8_t number, uint8_t *out, size_t length);
 /* Why a word of a text is bad. */
 size_t nib_say_wrong(uint8_t which, uint8_t *out, size_t length);
 
+/* A status byte in words, as `ready, FAIL`: where a data out gave it, t->output being NIB_OUTPUT_STATUS before the
+ * event. */
+size_t nib_say_status(uint8_t byte, uint8_t *out, size_t length);
+
+/* A row in words, with as much of it as its command looks at, as `row 000037h: LUN 1, block 5, page 3`: at the address
+ * cycle that completes it, t->sequence being NIB_SEQUENCE_ROWS and t->got 2 before the event. first is t->first. */
+size_t nib_say_row(uint8_t first, size_t row, size_t luns, size_t blocks, size_t pages, uint8_t *out, size_t length);
+
+/* Data in a row is told in one line: accepted data in; data out that gave a byte; data out that gave one and the same
+ * status byte. What is held back is a number, 0 where nothing is. Ask of each event, by its record and its reply;
+ * status is not 0 where the output was a status before it. nib_fold_goes: 1 where what is held back goes out first;
+ * nib_fold_next: what is held back then, and 0 where the event is told by itself. */
+uint64_t nib_fold_next(uint64_t state, uint8_t kind, uint8_t value, uint8_t first, uint8_t second, uint8_t status);
+uint8_t nib_fold_goes(uint64_t state, uint8_t kind, uint8_t value, uint8_t first, uint8_t second, uint8_t status);
+
+/* What is held back, and its replies. bytes are the first of its bytes, as many as are to be shown. */
+size_t nib_say_run(uint64_t state, const uint8_t *bytes, size_t bytes_length, uint8_t *out, size_t length);
+size_t nib_say_run_reply(uint64_t state, const uint8_t *bytes, size_t bytes_length, uint8_t *out, size_t length);
+
+/* One reply more in a tally of NIB_TALLY_LENGTH numbers, all 0 at first: number 0 is how many events were accepted,
+ * number n how many rule n refused. And the tally of so many events in words; 512 bytes are room for it. */
+enum { NIB_TALLY_LENGTH = 17 };
+void nib_tally(size_t *counts, size_t counts_length, uint8_t first, uint8_t second);
+size_t nib_say_tally(size_t events, const size_t *counts, size_t counts_length, uint8_t *out, size_t length);
+
 /* A list of records told as jobs, line by line. The line at record number `at`, counted from 0, in words: a whole job,
  * as `program LUN 1 block 5 page 3, column 0, 3 bytes`; a finish event; or what is no job. With luns 0 no part is
  * known, and a job has its row. The words of a line name records counted from 1. */

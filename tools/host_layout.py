@@ -19,7 +19,7 @@ import sys
 
 BITS = {'i8': 1, 'i16': 2, 'i32': 4, 'i64': 8}
 WIDTHS = {'u8': 1, 'u16': 2, 'u32': 4, 'u64': 8, 'usize': 8}
-C_TYPES = {'u8': 'uint8_t', 'u16': 'uint16_t', 'u32': 'uint32_t', 'u64': 'uint64_t', 'usize': 'size_t'}
+C_TYPES = {'': 'void', 'u8': 'uint8_t', 'u16': 'uint16_t', 'u32': 'uint32_t', 'u64': 'uint64_t', 'usize': 'size_t'}
 
 
 def fail(why):
@@ -40,7 +40,7 @@ def interface(rlib):
 def functions(text, prefix):
     """The exported functions: name -> (parameters as (name, type), result)."""
     found = {}
-    pattern = r'# \[ no_mangle \] pub extern "C" fn (%s\w+) \(([^()]*)\) -> (\w+)' % re.escape(prefix)
+    pattern = r'# \[ no_mangle \] pub extern "C" fn (%s\w+) \(([^()]*)\)(?: -> (\w+))?' % re.escape(prefix)
     for name, inside, result in re.findall(pattern, text):
         parameters = [part.strip().split(' : ', 1) for part in inside.split(' , ') if part.strip(' ,')]
         found[name] = ([(n, t.strip(' ,')) for n, t in parameters], result)
@@ -173,6 +173,8 @@ def prototype(name, parameters, result, record):
             words.append('uint8_t *, size_t')
         elif kind == '& [ u8 ]':
             words.append('const uint8_t *, size_t')
+        elif kind == '& [ usize ]':
+            words.append('const size_t *, size_t')
         elif kind == '& mut [ usize ]':
             words.append('size_t *, size_t')
         elif kind == '& mut [ u64 ]':

@@ -114,6 +114,7 @@ class Library:
         self.say_rule = self._typed("nib_say_rule", _size, byte + room)
         self.say_wrong = self._typed("nib_say_wrong", _size, byte + room)
         self._expectations()
+        self._folds()
 
     def _expectations(self) -> None:
         """What a script expects: whether it holds, and the words of what failed."""
@@ -130,14 +131,30 @@ class Library:
         self.say_script = self._typed("nib_say_script", _size, [_size, _size] + room)
         self.say_failed = self._typed("nib_say_failed", _size, [_size, _size] + room)
 
+    def _folds(self) -> None:
+        """What `explain` holds back, rows and status bytes in words, and the tally."""
+        room: _Types = [ctypes.c_char_p, _size]
+        counts: _Types = [ctypes.POINTER(ctypes.c_size_t), _size]
+        state: _Types = [ctypes.c_uint64]
+        byte: _Types = [_byte]
+        self.fold_next = self._typed("nib_fold_next", ctypes.c_uint64, state + 5 * byte)
+        self.fold_goes = self._typed("nib_fold_goes", _byte, state + 5 * byte)
+        self.say_run = self._typed("nib_say_run", _size, state + 2 * room)
+        self.say_run_reply = self._typed("nib_say_run_reply", _size, state + 2 * room)
+        self.say_row = self._typed("nib_say_row", _size, byte + 4 * [_size] + room)
+        self.say_status = self._typed("nib_say_status", _size, byte + room)
+        self.tally = self._typed("nib_tally", ctypes.c_int, counts + 2 * byte)
+        self.tally.restype = None
+        self.say_tally = self._typed("nib_say_tally", _size, [_size] + counts + room)
+
     def _typed(self, name: str, result: Type["ctypes._CData"], arguments: _Types) -> Any:
         function = getattr(self._loaded, name)
         function.restype, function.argtypes = result, arguments
         return function
 
-    def words(self, say: Any, *given: Union[int, bytes]) -> str:
+    def words(self, say: Any, *given: Any) -> str:
         """What a function of words writes, given what comes before its room."""
-        room = ctypes.create_string_buffer(256)
+        room = ctypes.create_string_buffer(512)
         written: int = say(*given, room, len(room))
         return room.raw[:written].decode("ascii")
 

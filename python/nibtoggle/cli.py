@@ -13,8 +13,9 @@ from typing import BinaryIO, Callable, Dict, Iterator, NoReturn, Optional, Seque
 from . import folder, jobs, parts, scripts, text
 from ._library import Library
 from .bench import Bench, make_folder, page_named, page_refusal
+from .explaining import Explanation
 from .part import FIELDS, PAGE_LENGTH, Part, crc, fields_outside
-from .replies import ADDRESS, DATA_OUT, Refused
+from .replies import Refused
 
 NAME = "nibtoggle"
 OK, ERROR, WRONG_CALL, NOT_AS_EXPECTED = range(4)
@@ -22,7 +23,7 @@ USAGE = """\
   nibtoggle new DIR [PART]         makes a part folder: part T1, one of `parts`, or the part of a page in a file
   nibtoggle parts                  the parts that have a name
   nibtoggle run DIR < TRACE        replies on standard output; the folder is brought up to date
-  nibtoggle explain DIR < TRACE    the same in words; the folder stays as it is
+  nibtoggle explain [-v] DIR < TRACE  the same in words; with -v each event on a line; the folder stays as it is
   nibtoggle test DIR < TEXT        runs a text and what it expects, as: = 3c a5  ! 5  ok; stored if all held, status 3 if not
   nibtoggle page FILE or DIR       what a parameter page says, and power-on's answer; of a folder its blank blocks too
   nibtoggle dump DIR LUN BLOCK PAGE   a page of the array; the folder stays as it is
@@ -36,8 +37,6 @@ USAGE = """\
 """
 #: A trace is run so many bytes at a time.
 _STRETCH = 1 << 20
-#: enum nib_sequence of the header: none is open, row cycles are due. enum nib_output: a register's or a status's bytes come out.
-_NO_SEQUENCE, _ROWS, _OF_A_LUN = 0, 2, (1, 3)
 
 
 class WrongCall(Exception):
@@ -178,34 +177,27 @@ def tested(words: Sequence[str], out: TextIO) -> int:
     return OK
 
 
-def lun_meant(bench: Bench, record: bytes) -> int:
-    """The LUN that a cycle which a working LUN refuses is about: that of the output, of the row that the cycle makes whole, or the selected
-    one."""
-    target = bench.target
-    if record[0] == DATA_OUT:
-        return int(target.output_lun) if target.output in _OF_A_LUN else int(target.selected)
-    if record[0] == ADDRESS and target.sequence == _ROWS:
-        return bench.part.lun_of(target.low | target.mid << 8 | record[-1] << 16)
-    return int(target.selected)
-
-
-def explained(bench: Bench, records: bytes, first: int = 1) -> Iterator[str]:
-    """What `explain` says of each record, which is run."""
-    for number, record in enumerate(text.pairs(records), first):
-        lun, inside = lun_meant(bench, record), bench.target.sequence != _NO_SEQUENCE
-        yield text.line_of(number, record, bench.trace(record).raw, lun, inside=inside)
+def explained(bench: Bench, records: bytes, each: bool = False) -> Iterator[str]:
+    """What `explain` says of a trace, which is run."""
+    told = Explanation(bench, each)
+    yield from told.lines(records)
+    yield from told.rest()
+    yield told.tally()
 
 
 def explain(words: Sequence[str], out: TextIO) -> int:
-    bench = _open(words[0], strict=False)
+    each, where = words[0] == "-v", words[-1]
+    bench = _open(where, strict=False)
     library = Library.any()
     answer = bench.power_on()
     out.write("power-on %s\n" % library.words(library.say_reply, 2 if answer else 0, answer, 0))
-    number = 1
-    for records in _input():
-        for line in explained(bench, records, number):
-            out.write(line + "\n")
-        number += len(records) // 2
+    told = Explanation(bench, each)
+    try:
+        for records in _input():
+            out.writelines(line + "\n" for line in told.lines(records))
+    finally:
+        out.writelines(line + "\n" for line in told.rest())
+    out.write(told.tally() + "\n")
     bench.close()
     return OK
 
@@ -242,7 +234,7 @@ def _number(name: str, word: str) -> int:
     try:
         return int(word, 0)
     except ValueError:
-        raise WrongCall("%s is a number, and %r is none" % (name, word)) from None
+        raise Failed("%s is a number, and '%s' is none" % (name, word)) from None
 
 
 def dump(words: Sequence[str], out: TextIO) -> int:
@@ -309,7 +301,11 @@ def diff(words: Sequence[str], out: TextIO) -> int:
         found += 1
     one.close()
     other.close()
-    return NOT_AS_EXPECTED if found else OK
+    if not found:
+        return OK
+    out.flush()
+    print("%s: the parts differ" % NAME, file=sys.stderr)
+    return NOT_AS_EXPECTED
 
 
 def version(words: Sequence[str], out: TextIO) -> int:
@@ -327,7 +323,7 @@ def helped(words: Sequence[str], out: TextIO) -> int:
 Command = Callable[[Sequence[str], TextIO], int]
 #: Each command, and how many words may come after it.
 COMMANDS: Dict[str, Tuple[Command, Tuple[int, ...]]] = {
-    "new": (new, (1, 2)), "parts": (known, (0,)), "run": (run, (1,)), "explain": (explain, (1,)), "test": (tested, (1,)),
+    "new": (new, (1, 2)), "parts": (known, (0,)), "run": (run, (1,)), "explain": (explain, (1, 2)), "test": (tested, (1,)),
     "page": (page, (1,)), "dump": (dump, (4,)), "diff": (diff, (2,)), "text": (text_or_back, (0, 1)), "jobs": (jobs_told, (0, 1)),
     "version": (version, (0,)), "help": (helped, (0,)), "--help": (helped, (0,)), "-h": (helped, (0,)), "--version": (version, (0,)),
 }
@@ -341,7 +337,10 @@ def _asked(words: Sequence[str]) -> Tuple[Command, Sequence[str]]:
     if "--help" in rest or "-h" in rest:
         return helped, []
     flags = [word for word in rest if word.startswith("-")]
-    if len(rest) not in counts or flags and (words[0] != "text" or flags != ["-d"]):
+    each = words[0] == "explain" and rest[:1] == ["-v"]
+    if len(rest) not in counts or flags and not (words[0] == "text" and flags == ["-d"] or each and flags == ["-v"]):
+        raise WrongCall("no such call; these are:")
+    if words[0] == "explain" and len(rest) != 1 + each:
         raise WrongCall("no such call; these are:")
     return command, rest
 

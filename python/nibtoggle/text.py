@@ -145,12 +145,10 @@ def event_words(kind: int, value: int, library: Optional[Library] = None, *, ins
     return said.words(said.say_event, 0, kind, value, int(inside))
 
 
-def line_of(number: int, record: bytes, reply: bytes, lun: int, library: Optional[Library] = None, *, inside: bool = False) -> str:
-    """A line of `explain`: the record's number, the event, the answer. `inside` says that a sequence was open when it came."""
-    said = library if library is not None else Library.found()
-    odd = len(record) == 1
-    line = "%6d  %s" % (number, said.words(said.say_event, int(odd), record[0], 0 if odd else record[1], int(inside)))
-    return line + " " * max(1, 44 - len(line)) + said.words(said.say_reply, reply[0], reply[1], lun)
+def columns(number: int, event: str, answer: str) -> str:
+    """A line of `explain`: the record's number, the event, the answer."""
+    line = "%6d  %s" % (number, event)
+    return line + " " * max(1, 44 - len(line)) + answer
 
 
 def pairs(records: bytes) -> Iterator[bytes]:

@@ -204,8 +204,10 @@ class Commands(Tried):
         lines = said.decode().splitlines()
         self.assertEqual(lines[0], "power-on accepted")
         self.assertEqual(lines[1], "     1  command FFh  reset                  accepted")
-        self.assertEqual(lines[-2], "    21  data out                            byte A5h")
+        self.assertEqual(lines[-2:], ["    20  data out, 3 bytes                   bytes 3Ch A5h FFh", "22 events: 22 accepted, 0 refused"])
         self.assertEqual(files(self.folder / "t1"), before)
+        status, said, _ = self.call("explain", "-v", "t1", given=trace)
+        self.assertEqual((status, said.decode().splitlines()[-3]), (0, "    21  data out                            byte A5h"))
         status, replies, _ = self.call("run", "t1", given=trace)
         self.assertEqual((status, replies), (0, bytes(38) + bytes.fromhex("013C 01A5 01FF")))
         self.assertEqual(files(self.folder / "t1")["array"][29040:29043], b"\x3C\xA5\xFF")
@@ -214,8 +216,8 @@ class Commands(Tried):
         self.assertIn(b"LUN 1, block 5, page 3: programmed 1 times", said)
         self.assertIn(b"0000  3C A5 FF", said)
         self.call("new", "other")
-        status, said, _ = self.call("diff", "t1", "other")
-        self.assertEqual(status, 3)
+        status, said, error = self.call("diff", "t1", "other")
+        self.assertEqual((status, error), (3, "nibtoggle: the parts differ\n"))
         self.assertIn(b"LUN 1, block 5, page 3: 2 bytes differ, the first at column 0: 3Ch and FFh", said)
         self.assertIn(b"LUN 1, block 5, page 3: programmed 1 times and 0", said)
         self.assertEqual(self.call("diff", "other", "other")[:2], (0, b""))
@@ -244,7 +246,7 @@ class Commands(Tried):
 
     def test_wrong_calls_are_2(self) -> None:
         for words in ([], ["nonsense"], ["new"], ["new", "a", "b", "c"], ["run"], ["dump", "t1"], ["new", "-x"], ["text", "-e"],
-                      ["page"], ["diff", "a"]):
+                      ["page"], ["diff", "a"], ["explain", "-v"], ["explain", "t1", "-v"], ["explain", "a", "b"], ["explain", "-w", "t1"]):
             status, said, told = self.call(*words)
             self.assertEqual((status, said), (2, b""), words)
             self.assertIn("nibtoggle: no such call; these are:", told)
@@ -252,7 +254,7 @@ class Commands(Tried):
         for words in (["help"], ["--help"], ["-h"], ["new", "--help"], ["run", "-h"]):
             status, said, _ = self.call(*words)
             self.assertEqual(status, 0)
-            self.assertIn(b"nibtoggle explain DIR < TRACE", said)
+            self.assertIn(b"nibtoggle explain [-v] DIR < TRACE", said)
         self.assertEqual(list(self.folder.iterdir()), [])                                   # and nothing is made
 
     def test_errors_are_1_and_one_line(self) -> None:
@@ -262,7 +264,8 @@ class Commands(Tried):
         for words, told in ((["run", "none"], "none/page: No such file or directory"), (["new", "t1"], "File exists"),
                             (["new", "x", "short"], "short: power-on refused 20"), (["page", "short"], "has 4 bytes"),
                             (["new", "x", "wide"], "wide: power-on refused 23"), (["new", "x", "wide"], "pages a block: 300, and 1 to 256"),
-                            (["dump", "t1", "2", "0", "0"], "LUN is 0 to 1, and 2 was given"), (["new", "x", "none"], "none: No such file")):
+                            (["dump", "t1", "2", "0", "0"], "LUN is 0 to 1, and 2 was given"),
+                            (["dump", "t1", "9", "x", "0"], "block is a number, and 'x' is none"), (["new", "x", "none"], "none: No such file")):
             status, said, error = self.call(*words)
             self.assertEqual((status, said, error.count("\n")), (1, b"", 1), error)
             self.assertTrue(error.startswith("nibtoggle: "), error)

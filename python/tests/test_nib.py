@@ -90,7 +90,8 @@ class Files(Nib):
         self.good("new", "t1")
         self.good("run", "t1", given=self.trace)
         before = held(self.part)
-        for words, given in ((("explain", "t1"), self.trace), (("explain", "t1"), b""), (("explain", "t1"), b"\x00\xFF\x05"),
+        for words, given in ((("explain", "t1"), self.trace), (("explain", "-v", "t1"), self.trace), (("dump", "t1", "1", "5", "3"), b""),
+                             (("dump", "t1", "1", "5", "4"), b""), (("diff", "t1", "t1"), b""), (("explain", "t1"), b""), (("explain", "t1"), b"\x00\xFF\x05"),
                              (("page", "t1/page"), b""), (("page", "t1"), b""), (("text",), SAVE.encode()),
                              (("text", "-d"), self.trace), (("help",), b""),
                              (("text", "t1"), b"erase 1 5\n"), (("text", "t1"), b"erase 1 9\n"), (("jobs",), self.trace), (("jobs", "t1"), self.trace),
@@ -153,12 +154,14 @@ class Files(Nib):
                       self.trace + b"\x05\x00\x05\x01\x05\x02\x07", (NIBS / "trace").read_bytes(), VALUES,
                       records_of("c ff c ef a 01 d 40 00 00 00 c 80 a 00 00 00 00 00 c 10 c 06 a 00 00 00 00 00 c 80 a 00 00 20 00 00 c 10 "
                                  "c 80 a 00 00 20 00 00 c 05 a 00 00 c 70 o 1 c 78 a 20 00 00 o 1")):
-            bench = Bench.open(self.part, strict=False)
-            due = "power-on accepted\n" + "".join(line + "\n" for line in explained(bench, trace))
-            self.assertEqual(self.good("explain", "t1", given=trace).decode(), due)
-            bench.close()
+            for words in (("explain", "t1"), ("explain", "-v", "t1")):
+                bench = Bench.open(self.part, strict=False)
+                due = "power-on accepted\n" + "".join(line + "\n" for line in explained(bench, trace, each="-v" in words))
+                self.assertEqual(self.good(*words, given=trace).decode(), due)
+                bench.close()
         lines = self.good("explain", "t1", given=b"\x05\x00\x05\x01\x05\x02").decode().splitlines()
-        self.assertEqual([line[8:44].strip() for line in lines[1:]], ["protect line low", "protect line high", "bytes 05 02"])
+        self.assertEqual([line[8:44].strip() for line in lines[1:-1]], ["protect line low", "protect line high", "bytes 05 02"])
+        self.assertEqual(lines[-1], "3 events: 2 accepted, 1 refused: 1 by rule 12")
 
     def test_text_both_ways_is_python_s(self) -> None:
         for trace in (self.trace, VALUES, VALUES + b"\x05", b"\x05\x01\x05\x00", b"", (NIBS / "many").read_bytes()):

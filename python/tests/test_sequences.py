@@ -143,7 +143,7 @@ class Sequences(unittest.TestCase):
                 (folder / "counts").write_bytes(case.placed("count", 64))
                 trace = self.nib("text", given=case.text.encode())
                 self.assertEqual(trace, records_of(case.text), case.title)
-                told = self.nib("explain", str(folder), given=trace).decode().splitlines()[1:]
+                told = self.nib("explain", "-v", str(folder), given=trace).decode().splitlines()[1:-1]
                 replies = Replies(self.nib("run", str(folder), given=trace), trace)
                 self.held(case, replies)
                 with case.bench() as bench:

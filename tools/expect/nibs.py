@@ -16,6 +16,15 @@ NONE = ('c 80  a 00 00 0a 00 00  d 01 02  c 85  a 02 00  d 03  c 10  f 1\n'    #
         'c 00  a 00  c 60  a 0e 00 00  c d0\n'                                 # a read that an erase cuts off; no block 3
         'c 00  a 10 00 00 00 00  c 30  c 78  a 10 00 00  o 1  o 16\n'          # no column 16; no LUN 2; 17 data outs
         'c 70  o 1  x 03 07  p 0  c 80  a 00 00 00\nx 05\n')                   # it ends inside a program, with an odd byte
+FOLDS = ('c ff  c 80  a 00 00 0a 00 00  d 01  c ff\n'                                # one byte by itself
+         'c 80  a 0e 00 0a 00 00  d 11 22 33 44\n'                                 # a refusal ends a run: 2 fit
+         'c 80  a 00 00 0a 00 00  d 01 02 03 04 05 06 07 08 09 0a 0b 0c 0d 0e 0f 10  c 10\n'    # 16 bytes, all shown
+         'c 78  a 0a 00 00  o 3  f 1  o 2  c 70  o 1  o 1\n'                         # statuses: the same, and others
+         'c ec  a 00  o 17  c ec  a 00  o 768  o 1  c ec  a 00  o 768  c ec  a 00  o 768\n'    # more than 16; across pieces
+         'c 90  a 20  o 4  c ee  a 01  o 4  o 1  c ef  a 01  d 40 00 00 00\n'       # signature, feature, and past its end
+         'p 0  c 70  o 2  p 1  d 01  o 1  d 02  o 2')                              # line low; refused ones are not folded
+ROWS = ('c ff  c 00  a 00 00 05 00 00  c ff  c 60  a 0b 00 00  c ff  c 80  a 00 00 03 00 00  c ff  c 78  a 0c 00 00  o 1\n'
+        'c 06  a 00  c 00  a 00 00 ff ff ff  c 60  a 04 00 00  c d0  c 78  a 04 00 00  o 2  f 0  o 2\n')
 KINDS = {'c': 0, 'a': 1, 'd': 2, 'f': 4, 'p': 5}
 #: The jobs' words: first command, last command, and the values after the word.
 JOBS = {'read': (0x00, 0x30, 'lun block page column'), 'read-out': (0x06, 0xE0, 'lun column count'),
@@ -138,6 +147,8 @@ def files():
     yield 'no_jobs', read(NONE)
     yield 'cut_off', read('c 60  a 01 00 00  c d0  f 0  c 80  a 00 00 00')
     yield 'nothing', b''
+    yield 'folds', read(FOLDS)
+    yield 'rows', read(ROWS)
     yield 'copyback', worked('A1', 1)
     yield 'polling', worked('A2', 1)
     yield 'many', bytes(x for r in many() for x in r) + b'\x03'

@@ -1,5 +1,6 @@
 // nib, the bench at the command line: all of the program, so that it and the programs that try its commands are one call each. Each
-// command's own work stands in a crate of its own: nib_run, nib_demo, nib_page, nib_check, nib_translate, nib_scripts, nib_jobs.
+// command's own work stands in a crate of its own: nib_run, nib_demo, nib_look, nib_page, nib_check, nib_translate, nib_scripts,
+// nib_jobs.
 pub mod known;
 
 use known::is_maker_s;
@@ -29,6 +30,8 @@ use nib_files::part::t1;
 use nib_files::part::to_t2;
 use nib_files::part::to_w;
 use nib_jobs::tell_jobs;
+use nib_look::diff::diff;
+use nib_look::dump::dump;
 use nib_page::pages::show_page;
 use nib_print::pen::Paper;
 use nib_print::pen::Pen;
@@ -36,6 +39,7 @@ use nib_print::pen::begin;
 use nib_print::pen::count;
 use nib_print::pen::flush;
 use nib_print::pen::text;
+use nib_run::running::Telling;
 use nib_run::running::on_folder;
 use nib_scripts::test_folder;
 use nib_translate::texts::from_text;
@@ -61,7 +65,17 @@ fn usage_files(out: &mut Paper, p: Pen) -> Pen {
     let p = text(
         out,
         p,
-        b"  nib explain DIR < TRACE    the same in words; the folder stays as it is\n",
+        b"  nib explain [-v] DIR < TRACE  the same in words; with -v each event on a line; the folder stays as it is\n",
+    );
+    let p = text(
+        out,
+        p,
+        b"  nib dump DIR LUN BLOCK PAGE   a page of the array; the folder stays as it is\n",
+    );
+    let p = text(
+        out,
+        p,
+        b"  nib diff DIR DIR           where two parts differ; status 3 if they do\n",
     );
     let p = text(
         out,
@@ -150,7 +164,15 @@ fn make_new(
 
 // The commands that have a part, or need as much room. Its buffers stand here alone, and this is called in one place, since the stack has no room for
 // two sets.
-fn on_part(asked: Asked, second: &[u8], third: &[u8], input: i32, out: &mut Paper) {
+fn on_part(
+    asked: Asked,
+    second: &[u8],
+    third: &[u8],
+    fourth: &[u8],
+    fifth: &[u8],
+    input: i32,
+    out: &mut Paper,
+) {
     let may = allowed(asked);
     let mut page = t1();
     let mut array = [0xffu8; 4194304];
@@ -171,7 +193,7 @@ fn on_part(asked: Asked, second: &[u8], third: &[u8], input: i32, out: &mut Pape
         Asked::Run => on_folder(
             second,
             may,
-            false,
+            Telling::Replies,
             input,
             out,
             &mut page,
@@ -183,7 +205,7 @@ fn on_part(asked: Asked, second: &[u8], third: &[u8], input: i32, out: &mut Pape
         Asked::Explain => on_folder(
             second,
             may,
-            true,
+            Telling::Folded,
             input,
             out,
             &mut page,
@@ -192,7 +214,18 @@ fn on_part(asked: Asked, second: &[u8], third: &[u8], input: i32, out: &mut Pape
             &mut counts,
             &mut flags,
         ),
-        Asked::ExplainEach => {}
+        Asked::ExplainEach => on_folder(
+            third,
+            may,
+            Telling::Each,
+            input,
+            out,
+            &mut page,
+            &mut array,
+            &mut registers,
+            &mut counts,
+            &mut flags,
+        ),
         Asked::Test => test_folder(
             second,
             may,
@@ -204,8 +237,26 @@ fn on_part(asked: Asked, second: &[u8], third: &[u8], input: i32, out: &mut Pape
             &mut counts,
             &mut flags,
         ),
-        Asked::Dump => {}
-        Asked::Diff => {}
+        Asked::Dump => dump(
+            second,
+            third,
+            fourth,
+            fifth,
+            out,
+            &mut page,
+            &mut array,
+            &mut counts,
+            &mut flags,
+        ),
+        Asked::Diff => diff(
+            second,
+            third,
+            out,
+            &mut page,
+            &mut array,
+            &mut counts,
+            &mut flags,
+        ),
         Asked::Text => {}
         Asked::TextOn => {}
         Asked::Back => {}
@@ -249,7 +300,7 @@ fn has_part(asked: Asked) -> bool {
         Asked::ExplainEach => true,
         Asked::Test => true,
         Asked::Dump => true,
-        Asked::Diff => false,
+        Asked::Diff => true,
         Asked::Text => false,
         Asked::TextOn => false,
         Asked::Back => false,
@@ -297,10 +348,18 @@ fn without_part(asked: Asked, second: &[u8], input: i32, out: &mut Paper) {
     }
 }
 
-// One command, over an input that is open.
-pub fn act(asked: Asked, second: &[u8], third: &[u8], input: i32, out: &mut Paper) {
+// One command, with the words after it, over an input that is open.
+pub fn act(
+    asked: Asked,
+    second: &[u8],
+    third: &[u8],
+    fourth: &[u8],
+    fifth: &[u8],
+    input: i32,
+    out: &mut Paper,
+) {
     if has_part(asked) {
-        on_part(asked, second, third, input, out)
+        on_part(asked, second, third, fourth, fifth, input, out)
     } else {
         without_part(asked, second, input, out)
     }
@@ -324,14 +383,20 @@ pub fn nib() {
     let mut first = [0u8; 4096];
     let mut second = [0u8; 4096];
     let mut third = [0u8; 4096];
+    let mut fourth = [0u8; 4096];
+    let mut fifth = [0u8; 4096];
     let a = argument(1, &mut first);
     let b = argument(2, &mut second);
     let c = argument(3, &mut third);
+    let d = argument(4, &mut fourth);
+    let e = argument(5, &mut fifth);
     let asked = asked_of(os::arg_count(), &first[..a], &second[..b], &third[..c]);
     act(
         asked,
         &second[..b],
         &third[..c],
+        &fourth[..d],
+        &fifth[..e],
         libc::STDIN_FILENO,
         &mut out,
     );

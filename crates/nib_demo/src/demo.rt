@@ -19,6 +19,7 @@ use nib_print::pen::flush;
 use nib_print::pen::put;
 use nib_print::pen::text;
 use nib_run::running::Stream;
+use nib_run::running::Telling;
 use nib_run::running::bytes;
 use nib_run::running::set_out;
 use slices::byte_at;
@@ -306,7 +307,7 @@ fn fresh(
     fill(counts, 0);
     let on = power(part, page, array, registers, counts, flags);
     let t = on.target;
-    set_out(t, p, true, STDIN_FILENO)
+    set_out(t, p, Telling::Each, STDIN_FILENO)
 }
 
 fn telling(

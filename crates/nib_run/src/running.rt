@@ -1,6 +1,22 @@
 // A trace as it comes, byte by byte: its replies as they are, or in words.
 use libc::STDOUT_FILENO;
 use nib_args::May;
+use nib_explain::fold::Held;
+use nib_explain::fold::Run;
+use nib_explain::fold::carried;
+use nib_explain::fold::goes_out;
+use nib_explain::fold::held_next;
+use nib_explain::fold::joins;
+use nib_explain::fold::pick_run;
+use nib_explain::fold::run_number;
+use nib_explain::fold::run_of;
+use nib_explain::tally::Tally;
+use nib_explain::tally::tally;
+use nib_explain::words::row_at;
+use nib_explain::words::run_reply;
+use nib_explain::words::run_words;
+use nib_explain::words::status_reply;
+use nib_explain::words::tally_words;
 use nib_files::part::Array;
 use nib_files::part::Counts;
 use nib_files::part::Flags;
@@ -16,6 +32,7 @@ use nib_print::input::left;
 use nib_print::pen::Paper;
 use nib_print::pen::Pen;
 use nib_print::pen::begin;
+use nib_print::pen::count;
 use nib_print::pen::end_line;
 use nib_print::pen::failed;
 use nib_print::pen::flush;
@@ -27,18 +44,41 @@ use nib_print::say::event;
 use nib_print::say::lun_meant;
 use nib_print::say::power_sentence;
 use nib_print::say::reply;
+use nib_print::say::said;
 use nib_text::reading::up;
 use power::PowerAnswer;
 use target::Event;
 use target::Target;
+use target::commands::place_of;
+use target::picks::pick_number;
 use target::place::is_open;
+use target::place::put_out;
+use target::place::shows_status;
+use target::views::Given;
+use target::views::RowGiven;
+use target::views::completed;
+
+// The first bytes of a run, which its line shows.
+pub type Shown = [u8; 16];
+
+// How a trace's replies are given.
+pub enum Telling {
+    // as two bytes
+    Replies,
+    // in words, data in a row in one line
+    Folded,
+    // in words, each event in a line of its own
+    Each,
+}
 
 // How far a trace has come.
 pub struct Stream {
     pub target: Target,
     pub pen: Pen,
-    // the replies in words, or as two bytes
+    // the replies in words
     pub words: bool,
+    // each event in a line of its own
+    pub each: bool,
     // how many records have come
     pub number: usize,
     // the first byte of a record has come, and this is it
@@ -47,50 +87,240 @@ pub struct Stream {
     pub input: i32,
     // there may be more to come
     pub going: bool,
+    // what is held back of a run of data, its first bytes, and the number of its first record
+    pub held: Held,
+    pub shown: Shown,
+    pub begun: usize,
+    pub tally: Tally,
 }
 
-pub fn set_out(target: Target, pen: Pen, words: bool, input: i32) -> Stream {
+fn nothing_held() -> Held {
+    Held {
+        run: Run::Nothing,
+        byte: 0,
+        count: 0,
+    }
+}
+
+fn in_words(how: Telling) -> bool {
+    match how {
+        Telling::Replies => false,
+        Telling::Folded => true,
+        Telling::Each => true,
+    }
+}
+
+fn one_by_one(how: Telling) -> bool {
+    match how {
+        Telling::Replies => true,
+        Telling::Folded => false,
+        Telling::Each => true,
+    }
+}
+
+pub fn set_out(target: Target, pen: Pen, how: Telling, input: i32) -> Stream {
+    let words = in_words(how);
+    let each = one_by_one(how);
+    let held = nothing_held();
+    let shown = [0u8; 16];
+    let tally = [0usize; 17];
     Stream {
         target,
         pen,
         words,
+        each,
         number: 0,
         half: false,
         first: 0,
         input,
         going: true,
+        held,
+        shown,
+        begun: 0,
+        tally,
     }
+}
+
+// A whole row, after the address cycle that completes it.
+fn row_words(out: &mut Paper, p: Pen, t: Target, k: RowGiven) -> Pen {
+    let mut words = [0u8; 128];
+    let g = t.geometry;
+    let first = k.first;
+    let row = k.row;
+    let n = row_at(&mut words, 0, place_of(first), g, row.0);
+    let p = text(out, p, b"  ");
+    said(out, p, &words, n)
+}
+
+fn row_if(out: &mut Paper, p: Pen, t: Target, e: Event) -> Pen {
+    if !(e.kind == 1) {
+        return p;
+    }
+    let d = t.decoder;
+    let s = d.sequence;
+    match completed(s, e.value) {
+        Given::Nothing => p,
+        Given::Column(_) => p,
+        Given::Row(k) => row_words(out, p, t, k),
+        Given::Single(_) => p,
+    }
+}
+
+fn row_unless(out: &mut Paper, p: Pen, odd: bool, t: Target, e: Event) -> Pen {
+    if odd { p } else { row_if(out, p, t, e) }
+}
+
+fn status_words(out: &mut Paper, p: Pen, b: u8) -> Pen {
+    let mut words = [0u8; 128];
+    let n = status_reply(&mut words, 0, b);
+    said(out, p, &words, n)
 }
 
 // A line: the record's number, the event, the answer.
-fn explained(
-    out: &mut Paper,
-    p: Pen,
-    number: usize,
-    odd: bool,
-    e: Event,
-    room: [u8; 2],
-    t: Target,
-) -> Pen {
-    let p = ranked(out, p, number);
-    let p = text(out, p, b"  ");
+fn line(out: &mut Paper, p: Pen, number: usize, odd: bool, e: Event, room: [u8; 2], t: Target) -> Pen {
     let d = t.decoder;
     let s = d.sequence;
+    let p = ranked(out, p, number);
+    let p = text(out, p, b"  ");
     let p = event(out, p, odd, e.kind, e.value, is_open(s));
+    let p = row_unless(out, p, odd, t, e);
     let p = pad(out, p, 43);
-    let p = reply(out, p, room[0], room[1], lun_meant(t, e));
+    let p = answer(out, p, e, room, t);
     end_line(out, p)
 }
 
-fn replied(out: &mut Paper, s: Stream, number: usize, odd: bool, e: Event, room: [u8; 2]) -> Pen {
+fn answer(out: &mut Paper, p: Pen, e: Event, room: [u8; 2], t: Target) -> Pen {
+    let d = t.decoder;
+    if (room[0] == 1) & shows_status(put_out(d)) {
+        status_words(out, p, room[1])
+    } else {
+        reply(out, p, room[0], room[1], lun_meant(t, e))
+    }
+}
+
+// What is held back, as one line: the number of the run's first record, its cycles, their replies.
+fn run_line(out: &mut Paper, p: Pen, h: Held, shown: Shown, begun: usize) -> Pen {
+    shown_line(out, p, h, &shown, begun)
+}
+
+fn shown_line(out: &mut Paper, p: Pen, h: Held, shown: &[u8], begun: usize) -> Pen {
+    let mut words = [0u8; 128];
+    let k = count(h.count, shown);
+    let p = ranked(out, p, begun);
+    let p = text(out, p, b"  ");
+    let n = run_words(&mut words, 0, h, &shown[..k]);
+    let p = said(out, p, &words, n);
+    let p = pad(out, p, 43);
+    let n = run_reply(&mut words, 0, h, &shown[..k]);
+    let p = said(out, p, &words, n);
+    end_line(out, p)
+}
+
+fn let_out(out: &mut Paper, s: Stream, goes: bool) -> Stream {
+    if !goes {
+        return s;
+    }
+    let p = s.pen;
+    let h = s.held;
+    let shown = s.shown;
+    let pen = run_line(out, p, h, shown, s.begun);
+    let held = nothing_held();
+    Stream { pen, held, ..s }
+}
+
+// What is held back after a cycle of a run.
+fn hold(s: Stream, number: usize, run: Run, b: u8) -> Stream {
+    let h = s.held;
+    let joined = joins(h, run, b);
+    let begun = pick_number(joined, s.begun, number);
+    let place = pick_number(joined, h.count, 0);
+    let mut shown = s.shown;
+    if place < 16 {
+        shown[place] = b;
+    }
+    let held = held_next(h, run, b);
+    Stream {
+        held,
+        shown,
+        begun,
+        ..s
+    }
+}
+
+fn counted(from: Tally, room: [u8; 2]) -> Tally {
+    let mut counts = from;
+    tally(&mut counts, room[0], room[1]);
+    counts
+}
+
+fn with_counted(s: Stream, room: [u8; 2]) -> Stream {
+    let counts = s.tally;
+    let tally = counted(counts, room);
+    Stream { tally, ..s }
+}
+
+fn told_alone(out: &mut Paper, s: Stream, number: usize, odd: bool, e: Event, room: [u8; 2]) -> Stream {
     let p = s.pen;
     let t = s.target;
-    if s.words {
-        explained(out, p, number, odd, e, room, t)
+    let pen = line(out, p, number, odd, e, room, t);
+    Stream { pen, ..s }
+}
+
+// An event in words: at once, or held back as a cycle of a run. What was held back before it and doesn't go on goes out first.
+fn explained(out: &mut Paper, s: Stream, number: usize, odd: bool, e: Event, room: [u8; 2]) -> Stream {
+    let t = s.target;
+    let d = t.decoder;
+    let status = shows_status(put_out(d));
+    let run = pick_run(
+        s.each,
+        Run::Nothing,
+        run_of(e.kind, room[0], status),
+    );
+    let b = carried(e.kind, e.value, room[1]);
+    let h = s.held;
+    let s = let_out(out, s, goes_out(h, run, b));
+    let s = with_counted(s, room);
+    if run_number(run) == 0 {
+        told_alone(out, s, number, odd, e, room)
     } else {
-        let p = put(out, p, room[0]);
-        put(out, p, room[1])
+        hold(s, number, run, b)
     }
+}
+
+fn replied(out: &mut Paper, s: Stream, number: usize, odd: bool, e: Event, room: [u8; 2]) -> Stream {
+    if s.words {
+        return explained(out, s, number, odd, e, room);
+    }
+    let p = s.pen;
+    let p = put(out, p, room[0]);
+    let pen = put(out, p, room[1]);
+    Stream { pen, ..s }
+}
+
+// What is held back goes out.
+fn drained(out: &mut Paper, s: Stream) -> Stream {
+    let h = s.held;
+    let_out(out, s, 0 < h.count)
+}
+
+fn tally_line(out: &mut Paper, p: Pen, events: usize, counts: Tally) -> Pen {
+    let mut words = [0u8; 512];
+    let n = tally_words(&mut words, 0, events, &counts);
+    let n = count(n, &words);
+    let p = text(out, p, &words[..n]);
+    end_line(out, p)
+}
+
+// The end of a trace that is told in words: what is held back, and the tally.
+fn ended(out: &mut Paper, s: Stream) -> Stream {
+    if !s.words {
+        return s;
+    }
+    let s = drained(out, s);
+    let p = s.pen;
+    let counts = s.tally;
+    let pen = tally_line(out, p, s.number, counts);
+    Stream { pen, ..s }
 }
 
 // A whole record.
@@ -122,10 +352,9 @@ fn record(
     );
     let number = up(s.number);
     let e = Event { kind, value };
-    let pen = replied(out, s, number, false, e, room);
+    let s = replied(out, s, number, false, e, room);
     Stream {
         target,
-        pen,
         number,
         half: false,
         first: 0,
@@ -166,10 +395,9 @@ fn odd_byte(
         kind: s.first,
         value: 0,
     };
-    let pen = replied(out, s, number, true, e, room);
+    let s = replied(out, s, number, true, e, room);
     Stream {
         target,
-        pen,
         number,
         half: false,
         ..s
@@ -235,10 +463,12 @@ fn flushed(s: Stream, out: &Paper, more: bool) -> Stream {
     Stream { pen, going, ..s }
 }
 
-// An input that can't be read: nothing is stored.
-fn unread(s: Stream) -> Stream {
-    failed(b"standard input");
+// An input that can't be read: what is held back goes out before the error, and nothing is stored.
+fn unread(s: Stream, out: &mut Paper) -> Stream {
+    let s = drained(out, s);
     let p = s.pen;
+    let p = flush(out, p);
+    failed(b"standard input");
     let pen = Pen { good: false, ..p };
     Stream {
         pen,
@@ -261,11 +491,12 @@ fn turn(
     let mut chunk = [0u8; 4096];
     let got = libc::read(s.input, &mut chunk);
     if got < 0 {
-        return unread(s);
+        return unread(s, out);
     }
     let n = io::count(got, &chunk);
     if n == 0 {
         let s = odd_byte(s, out, part, page, array, registers, counts, flags);
+        let s = ended(out, s);
         return flushed(s, out, false);
     }
     let s = bytes(
@@ -304,7 +535,7 @@ fn whole_input(
 // The trace of standard input. Whether all of it was read and every reply written.
 fn ran(
     t: Target,
-    words: bool,
+    how: Telling,
     input: i32,
     out: &mut Paper,
     part: Part,
@@ -314,7 +545,7 @@ fn ran(
     counts: &mut Counts,
     flags: &Flags,
 ) -> bool {
-    let s = set_out(t, begin(STDOUT_FILENO), words, input);
+    let s = set_out(t, begin(STDOUT_FILENO), how, input);
     let s = whole_input(s, out, part, page, array, registers, counts, flags);
     let p = s.pen;
     p.good
@@ -355,7 +586,7 @@ fn goes_on(out: &mut Paper, dir: &[u8], words: bool, answer: PowerAnswer) -> boo
 pub fn on_folder(
     dir: &[u8],
     may: May,
-    words: bool,
+    how: Telling,
     input: i32,
     out: &mut Paper,
     page: &mut Page,
@@ -371,12 +602,12 @@ pub fn on_folder(
     let on = power(part, page, array, registers, counts, flags);
     let answer = on.answer;
     let t = on.target;
-    if !goes_on(out, dir, words, answer) {
+    if !goes_on(out, dir, in_words(how), answer) {
         return;
     }
     let good = ran(
         t,
-        words,
+        how,
         input,
         out,
         part,

@@ -1,3 +1,4 @@
 pub mod Expects
+pub mod Folds
 pub mod Pieces
 pub mod Speech

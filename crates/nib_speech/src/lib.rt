@@ -2,6 +2,7 @@
 // lent bytes, so that no host writes them a second time. What is read, written or answered so far is a number, which is 0 where a
 // text, a trace or a script begins.
 pub mod expects;
+pub mod folds;
 pub mod pieces;
 pub mod states;
 
@@ -100,7 +101,7 @@ pub extern "C" fn nib_text_listed(state: u64, byte: u8) -> u8
 }
 
 // The sizes of a part; `columns` is its page size P.
-fn sizes(luns: usize, blocks: usize, pages: usize, columns: u16) -> Geometry
+pub fn sizes(luns: usize, blocks: usize, pages: usize, columns: u16) -> Geometry
     ensures { λ g. ⌜ g ≡ sizes luns blocks pages columns ⌝ }
 {
     Geometry {

@@ -28,8 +28,11 @@ nameWords first.Erase = ascii "erase"
 nameWords first.Status = ascii "status"
 
 -- a row as its three bytes
+unfoldable pub rowBytes : ℕ → List ℕ
+rowBytes r = hexed (r / 65536 % 256) false ++ (hexed (r / 256 % 256) false ++ byteWords (r % 256))
+
 unfoldable pub rowWords : ℕ → List ℕ
-rowWords r = ascii " row " ++ (hexed (r / 65536 % 256) false ++ (hexed (r / 256 % 256) false ++ byteWords (r % 256)))
+rowWords r = ascii " row " ++ rowBytes r
 
 unfoldable pub blockWords : ℕ → ℕ → List ℕ
 blockWords lun block = (ascii " LUN " ++ decimal lun) ++ (ascii " block " ++ decimal block)

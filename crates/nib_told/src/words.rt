@@ -17,7 +17,7 @@ use nib_words::say::with_number_if;
 use target::Geometry;
 ghost use mathlib.Core.Path.{_≡_};
 ghost use Rattle.nib_words.specs.Desk.{Desk, wrote};
-ghost use Rattle.nib_told.specs.Words.{nameWords, rowWords, blockWords, pageWords, placeWords, columnWords, countWords, bytesWords, phraseWords, begunWords, dataWords, timesWords, aloneWords, oddWords, lineWords};
+ghost use Rattle.nib_told.specs.Words.{nameWords, rowBytes, rowWords, blockWords, pageWords, placeWords, columnWords, countWords, bytesWords, phraseWords, begunWords, dataWords, timesWords, aloneWords, oddWords, lineWords};
 
 fn name_words(out: &mut [u8], at: usize, f: First) -> usize
     ensures { λ r. ⌜ _≡_ {A = Desk} (record { room = now (out .exit); at = r }) (wrote (record { room = now (out .entry); at = at }) (nameWords f)) ⌝ }
@@ -33,13 +33,19 @@ fn name_words(out: &mut [u8], at: usize, f: First) -> usize
 }
 
 // A row as its three bytes.
+pub fn row_bytes(out: &mut [u8], at: usize, row: usize) -> usize
+    ensures { λ r. ⌜ _≡_ {A = Desk} (record { room = now (out .exit); at = r }) (wrote (record { room = now (out .entry); at = at }) (rowBytes row)) ⌝ }
+{
+    let at = hex(out, at, (row / 65536 % 256) as u8, false);
+    let at = hex(out, at, (row / 256 % 256) as u8, false);
+    byte(out, at, (row % 256) as u8)
+}
+
 fn row_words(out: &mut [u8], at: usize, row: usize) -> usize
     ensures { λ r. ⌜ _≡_ {A = Desk} (record { room = now (out .exit); at = r }) (wrote (record { room = now (out .entry); at = at }) (rowWords row)) ⌝ }
 {
     let at = say(out, at, b" row ");
-    let at = hex(out, at, (row / 65536 % 256) as u8, false);
-    let at = hex(out, at, (row / 256 % 256) as u8, false);
-    byte(out, at, (row % 256) as u8)
+    row_bytes(out, at, row)
 }
 
 fn block_words(out: &mut [u8], at: usize, lun: usize, block: usize) -> usize
@@ -128,7 +134,8 @@ fn data_words(out: &mut [u8], at: usize, kind: u8, times: usize) -> usize
     count_words(out, at, times)
 }
 
-fn times_words(out: &mut [u8], at: usize, kind: u8, value: u8, times: usize, inside: bool) -> usize
+// A record, or data cycles in a row.
+pub fn times_words(out: &mut [u8], at: usize, kind: u8, value: u8, times: usize, inside: bool) -> usize
     ensures { λ r. ⌜ _≡_ {A = Desk} (record { room = now (out .exit); at = r }) (wrote (record { room = now (out .entry); at = at }) (timesWords kind value times inside)) ⌝ }
 {
     if times <= 1 {

@@ -9,13 +9,25 @@ fn title(words: &[u8]) {
     text(b"\n");
 }
 
-// A command over the file `input`.
-fn tried(words: &[u8], asked: Asked, second: &[u8], third: &[u8], input: &[u8]) {
+// A command with up to four words after it, over the file `input`.
+fn tried_with(
+    words: &[u8],
+    asked: Asked,
+    second: &[u8],
+    third: &[u8],
+    fourth: &[u8],
+    fifth: &[u8],
+    input: &[u8],
+) {
     let mut out = [0u8; 65536];
     title(words);
     let fd = os::open_read(input);
-    act(asked, second, third, fd, &mut out);
+    act(asked, second, third, fourth, fifth, fd, &mut out);
     libc::close(fd);
+}
+
+fn tried(words: &[u8], asked: Asked, second: &[u8], third: &[u8], input: &[u8]) {
+    tried_with(words, asked, second, third, b"", b"", input);
 }
 
 fn texts() {
@@ -54,6 +66,72 @@ fn runs() {
         b"",
         b"look",
     );
+}
+
+// Data in a row, to every end that a run has; and each event by itself.
+fn folds() {
+    tried(b"explain tiny, of folds", Asked::Explain, b"tiny", b"", b"folds");
+    tried(
+        b"explain -v tiny",
+        Asked::ExplainEach,
+        b"-v",
+        b"tiny",
+        b"rows",
+    );
+    tried(b"explain tiny, of rows", Asked::Explain, b"tiny", b"", b"rows");
+    tried(
+        b"explain tiny, of nothing",
+        Asked::Explain,
+        b"tiny",
+        b"",
+        b"nothing",
+    );
+}
+
+fn dumps() {
+    tried_with(
+        b"dump tiny 0 0 1",
+        Asked::Dump,
+        b"tiny",
+        b"0",
+        b"0",
+        b"1",
+        b"nothing",
+    );
+    tried_with(
+        b"dump tiny 0 2 0, a bad block",
+        Asked::Dump,
+        b"tiny",
+        b"0",
+        b"2",
+        b"0",
+        b"nothing",
+    );
+    tried_with(
+        b"dump made 1 7 3, the last page",
+        Asked::Dump,
+        b"made",
+        b"1",
+        b"7",
+        b"3",
+        b"nothing",
+    );
+    tried_with(
+        b"dump made 2 0 0, no such LUN",
+        Asked::Dump,
+        b"made",
+        b"2",
+        b"0",
+        b"0",
+        b"nothing",
+    );
+}
+
+fn diffs() {
+    tried(b"diff tiny again", Asked::Diff, b"tiny", b"again", b"nothing");
+    tried(b"diff again again", Asked::Diff, b"again", b"again", b"nothing");
+    tried(b"diff made third", Asked::Diff, b"made", b"third", b"nothing");
+    tried(b"diff made other", Asked::Diff, b"made", b"other", b"nothing");
 }
 
 fn pages() {
@@ -174,8 +252,11 @@ fn main() {
     texts();
     jobs();
     runs();
+    folds();
     pages();
     checks();
     folders();
+    dumps();
+    diffs();
     scripts();
 }

@@ -1,7 +1,7 @@
 -- `nib_told::words::row_words` meets its contract.
 -- Assumes nothing.
-use Rattle.nib_told.specs.Words.{rowWords}
 use Rattle.nib_words.proofs.Desks.{then}
+use Rattle.nib_told.specs.Words.{rowWords}
 use borrow.Author.Needs.{needs}
 use Rattle.nib_told.proofs.words.row_words.Statement.{statement}
 use Rattle.nib_told.proofs.words.row_words.Tie as tie
@@ -12,23 +12,8 @@ slice-aggregate-say c = search needs
 say-requires : tie.Need-say-requires
 say-requires c κs = search needs
 
-cast-hex : tie.Need-cast-hex
-cast-hex c = search needs
-
-hex-requires : tie.Need-hex-requires
-hex-requires c κs = search needs
-
-cast-hex-2 : tie.Need-cast-hex-2
-cast-hex-2 c = search needs
-
-hex-requires-2 : tie.Need-hex-requires-2
-hex-requires-2 c κs = search needs
-
-cast-byte : tie.Need-cast-byte
-cast-byte c = search needs
-
-byte-requires : tie.Need-byte-requires
-byte-requires c κs = search needs
+row-bytes-requires : tie.Need-row-bytes-requires
+row-bytes-requires c κs = search needs
 
 same-length : tie.Need-same-length
 same-length c = search needs
@@ -38,24 +23,9 @@ unfolding rowWords
 returns c =
     let c2 = c .before .before in
     let c6 = c2 .before .before .before .before in
-    let c10 = c6 .before .before .before .before in
-    let c14 = c10 .before .before .before .before in
-    then _ _ _ _ _ (c14 .say .ensures)
-    (then _ _ _ _ _ (c10 .hex .ensures)
-    (then _ _ _ _ _ (c6 .hex2 .ensures)
-    (c2 .byte .ensures)))
+    then _ _ _ _ _ (c6 .say .ensures)
+    (c2 .row-bytes .ensures)
 
 pub row-words-spec : {M : Type 1} → statement M
 row-words-spec =
-    tie.close
-    (tie.spec
-    slice-aggregate-say
-    say-requires
-    cast-hex
-    hex-requires
-    cast-hex-2
-    hex-requires-2
-    cast-byte
-    byte-requires
-    same-length
-    returns)
+    tie.close (tie.spec slice-aggregate-say say-requires row-bytes-requires same-length returns)

@@ -1,0 +1,46 @@
+-- `nib_explain::tally::bump` meets its contract.
+-- Assumes nothing.
+use borrow.Author.Tests.{lt-ltb, le-ltb}
+use Rattle.nib_explain.specs.Tally.{bumped}
+use borrow.Author.Needs.{needs}
+use Rattle.nib_explain.proofs.tally.bump.Statement.{statement}
+use Rattle.nib_explain.proofs.tally.bump.Tie as tie
+
+mul-up : tie.Need-mul-up
+mul-up c = search needs
+
+slice-read-up : tie.Need-slice-read-up
+slice-read-up c = search needs
+
+up-requires : tie.Need-up-requires
+up-requires c κs = search needs
+
+mul-counts : tie.Need-mul-counts
+mul-counts c = search needs
+
+slice-write-counts : tie.Need-slice-write-counts
+slice-write-counts c = search needs
+
+same-length : tie.Need-same-length
+same-length c = search needs
+
+returns : tie.Need-returns
+unfolding bumped
+returns c = rw (c .up .ensures, lt-ltb _ _ (c .before .before .if1 .taken))
+
+returns-2 : tie.Need-returns-2
+unfolding bumped
+returns-2 c = rw (le-ltb _ _ (c .if1 .left))
+
+pub bump-spec : {M : Type 1} → statement M
+bump-spec =
+    tie.close
+    (tie.spec
+    mul-up
+    slice-read-up
+    up-requires
+    mul-counts
+    slice-write-counts
+    same-length
+    returns
+    returns-2)
