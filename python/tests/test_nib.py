@@ -483,11 +483,13 @@ class Scripts(Nib):
     def tried(self, text: bytes) -> Tuple[bytes, str]:
         """What nib says of a script; the folder is then as the library leaves a copy of it, or as it was."""
         before = held(self.part)
-        with Bench.open(self.part) as bench:
-            outcome = scripts.run(bench, text, "standard input")
-            left = {"array": bytes(bench.array), "counts": bytes(bench.counts), "registers": bytes(bench.registers)}
+        bench = Bench.open(self.part)
+        outcome = scripts.run(bench, text, "standard input")
+        left = {"array": bytes(bench.array), "counts": bytes(bench.counts), "registers": bytes(bench.registers)}
+        bench.close()
+        self.assertEqual(held(self.part), before)
         said, error = self.nib("test", "t1", given=text)
-        due = "".join("nib: %s\n" % failure for failure in outcome.failures)
+        due = "".join("nib: " + str(failure) + "\n" for failure in outcome.failures)
         if outcome.failures:
             due += "nib: %d of %d expectations failed; nothing was stored\n" % (len(outcome.failures), outcome.expectations)
             self.assertEqual(held(self.part), before)
@@ -530,8 +532,11 @@ class Scripts(Nib):
                 _, error = self.nib("test", "t1", given=given, fail="%s:%d:%d" % (kind, nth, errno.ENOSPC))
                 self.assertIn(os.strerror(errno.ENOSPC), error, (kind, nth))
                 self.assertEqual(held(self.part), before, (kind, nth))
-        self.assertIn("Input/output error", self.nib("test", "t1", given=given, fail="read:8:%d" % errno.EIO)[1])
-        self.assertEqual(held(self.part), before)
+        for nth, told in ((1, "standard input: "), (3, "standard input: Input/output error")):
+            said, error = self.nib("test", "t1", given=given, fail="read:%d:%d" % (nth, errno.EIO))
+            self.assertEqual(said, b"")
+            self.assertIn(told, error)
+            self.assertEqual(held(self.part), before)
 
     def test_how_much_is_held(self) -> None:
         front = b"c ff c ec a 00 o 256 = "
@@ -552,8 +557,9 @@ class Scripts(Nib):
         self.assertIn("1 of 1 expectations failed", error)
         self.assertEqual(held(self.part), before)
         exact = outs + b"= " + (page * 345).hex(" ").encode()
-        with Bench.open(self.part) as bench:
-            self.assertTrue(scripts.run(bench, exact).held)
+        bench = Bench.open(self.part)
+        self.assertTrue(scripts.run(bench, exact).held)
+        bench.close()
 
     def test_a_part_that_is_not_powered(self) -> None:
         (self.part / "counts").write_bytes(b"\xff" * 64)
