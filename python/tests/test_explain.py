@@ -16,6 +16,7 @@ sys.path[:0] = [str(ROOT / "python")]
 from nibtoggle import Bench, parameter_page, records_of  # noqa: E402
 from nibtoggle._library import Library  # noqa: E402
 from nibtoggle.cli import explained  # noqa: E402
+from nibtoggle.parts import PARTS  # noqa: E402
 
 NIB = Path(os.environ.get("NIB_PROGRAM", ROOT / "target" / "bin" / "nib"))
 Said = Tuple[int, str, str]
@@ -34,9 +35,8 @@ def cells(line: str) -> Tuple[int, str, str]:
 class Lines(unittest.TestCase):
     """The lines of a trace, on T1: 512+16 bytes, 4 pages, 8 blocks, 2 LUNs."""
 
-    def told(self, text: str, each: bool = False, **given: object) -> List[str]:
-        bench = Bench(parameter_page(**given), strict=False)            # type: ignore[arg-type]
-        bench.power_on()
+    def told(self, text: str, each: bool = False, page: bytes = parameter_page()) -> List[str]:
+        bench = Bench(page, 0x68, strict=False)
         return list(explained(bench, records_of(text), each))
 
     def folded(self, text: str) -> List[Tuple[int, str, str]]:
@@ -56,12 +56,10 @@ class Lines(unittest.TestCase):
         # with no sequence open an address completes nothing
         self.assertEqual(self.folded("c ff a 00")[-1][1], "address 00h")
         # T2's fields: two bits of page, three of block
-        self.assertIn("row 000011h: LUN 0, block 4, page 1", self.told("c ff c 00 a 00 00 11 00 00", pages=3, blocks=5)[-2])
+        self.assertIn("row 000011h: LUN 0, block 4, page 1", self.told("c ff c 00 a 00 00 11 00 00", page=PARTS["T2"].page)[-2])
 
     def test_a_copyback_s_row(self) -> None:
-        bench = Bench("W", strict=False)
-        bench.power_on()
-        lines = list(explained(bench, records_of("c ff c 00 a 00 00 00 00 00 c 35 f 0 c 85 a 00 00 01 00 00")))
+        lines = self.told("c ff c 00 a 00 00 00 00 00 c 35 f 0 c 85 a 00 00 01 00 00", page=PARTS["W"].page)
         self.assertIn("row 000001h: LUN 0, block 0, page 1", lines[-2])
 
     def test_status_bytes_in_words(self) -> None:

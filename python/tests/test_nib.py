@@ -252,8 +252,14 @@ class Failures(Nib):
         self.assertEqual(held(self.part), before)
         lines = self.good("explain", "t1", given=self.more).decode().splitlines()
         self.assertEqual(lines[0], "power-on refused 25: " + nibtoggle.RULES[25])
-        self.assertTrue(all("refused 13: " in line for line in lines[1:]))
+        self.assertTrue(all("refused 13: " in line for line in lines[1:-1]))
+        self.assertEqual(lines[-1], "%d events: 0 accepted, %d refused: %d by rule 13" % (3 * (len(self.more) // 2,)))
         self.assertEqual(held(self.part), before)
+
+    def test_what_explain_holds_back_goes_out_before_an_error(self) -> None:
+        said, error = self.nib("explain", "t1", given=records_of("c ff c 90 a 20 o 4"), fail="read:2:%d" % errno.EIO)
+        self.assertEqual(error, "nib: standard input: Input/output error\n")
+        self.assertEqual(said.decode().splitlines()[-1], "     4  data out, 4 bytes                   bytes 4Fh 4Eh 46h 49h")
 
     def test_a_record_that_is_cut_off(self) -> None:
         before = held(self.part)

@@ -156,14 +156,7 @@ fn arrays_differ(out: &mut Paper, f: Found, at: Place, a: &[u8], b: &[u8]) -> Fo
     }
     let p = f.pen;
     let p = place_words(out, p, at);
-    let pen = bytes_line(
-        out,
-        p,
-        b" bytes differ, the first at column ",
-        d,
-        a,
-        b,
-    );
+    let pen = bytes_line(out, p, b" bytes differ, the first at column ", d, a, b);
     Found {
         pen,
         differs: true,
@@ -206,13 +199,7 @@ fn read_page(
     if !read_front(fd, held, n) {
         return unread(out, f, path);
     }
-    arrays_differ(
-        out,
-        f,
-        at,
-        part_of(held, 0, n),
-        part_of(other, at.start, n),
-    )
+    arrays_differ(out, f, at, part_of(held, 0, n), part_of(other, at.start, n))
 }
 
 fn one_place(

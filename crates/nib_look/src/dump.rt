@@ -215,14 +215,7 @@ fn show(out: &mut Paper, at: Place, held: &[u8], count: u8, flag: u8) {
     flush(out, p);
 }
 
-fn show_page(
-    g: Geometry,
-    at: Place,
-    out: &mut Paper,
-    array: &[u8],
-    counts: &[u8],
-    flags: &[u8],
-) {
+fn show_page(g: Geometry, at: Place, out: &mut Paper, array: &[u8], counts: &[u8], flags: &[u8]) {
     let held = part_of(array, at.start, page_size(g));
     show(
         out,

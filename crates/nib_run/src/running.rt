@@ -177,7 +177,15 @@ fn status_words(out: &mut Paper, p: Pen, b: u8) -> Pen {
 }
 
 // A line: the record's number, the event, the answer.
-fn line(out: &mut Paper, p: Pen, number: usize, odd: bool, e: Event, room: [u8; 2], t: Target) -> Pen {
+fn line(
+    out: &mut Paper,
+    p: Pen,
+    number: usize,
+    odd: bool,
+    e: Event,
+    room: [u8; 2],
+    t: Target,
+) -> Pen {
     let d = t.decoder;
     let s = d.sequence;
     let p = ranked(out, p, number);
@@ -259,7 +267,14 @@ fn with_counted(s: Stream, room: [u8; 2]) -> Stream {
     Stream { tally, ..s }
 }
 
-fn told_alone(out: &mut Paper, s: Stream, number: usize, odd: bool, e: Event, room: [u8; 2]) -> Stream {
+fn told_alone(
+    out: &mut Paper,
+    s: Stream,
+    number: usize,
+    odd: bool,
+    e: Event,
+    room: [u8; 2],
+) -> Stream {
     let p = s.pen;
     let t = s.target;
     let pen = line(out, p, number, odd, e, room, t);
@@ -267,15 +282,18 @@ fn told_alone(out: &mut Paper, s: Stream, number: usize, odd: bool, e: Event, ro
 }
 
 // An event in words: at once, or held back as a cycle of a run. What was held back before it and doesn't go on goes out first.
-fn explained(out: &mut Paper, s: Stream, number: usize, odd: bool, e: Event, room: [u8; 2]) -> Stream {
+fn explained(
+    out: &mut Paper,
+    s: Stream,
+    number: usize,
+    odd: bool,
+    e: Event,
+    room: [u8; 2],
+) -> Stream {
     let t = s.target;
     let d = t.decoder;
     let status = shows_status(put_out(d));
-    let run = pick_run(
-        s.each,
-        Run::Nothing,
-        run_of(e.kind, room[0], status),
-    );
+    let run = pick_run(s.each, Run::Nothing, run_of(e.kind, room[0], status));
     let b = carried(e.kind, e.value, room[1]);
     let h = s.held;
     let s = let_out(out, s, goes_out(h, run, b));
@@ -287,7 +305,14 @@ fn explained(out: &mut Paper, s: Stream, number: usize, odd: bool, e: Event, roo
     }
 }
 
-fn replied(out: &mut Paper, s: Stream, number: usize, odd: bool, e: Event, room: [u8; 2]) -> Stream {
+fn replied(
+    out: &mut Paper,
+    s: Stream,
+    number: usize,
+    odd: bool,
+    e: Event,
+    room: [u8; 2],
+) -> Stream {
     if s.words {
         return explained(out, s, number, odd, e, room);
     }

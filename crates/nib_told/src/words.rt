@@ -135,7 +135,14 @@ fn data_words(out: &mut [u8], at: usize, kind: u8, times: usize) -> usize
 }
 
 // A record, or data cycles in a row.
-pub fn times_words(out: &mut [u8], at: usize, kind: u8, value: u8, times: usize, inside: bool) -> usize
+pub fn times_words(
+    out: &mut [u8],
+    at: usize,
+    kind: u8,
+    value: u8,
+    times: usize,
+    inside: bool,
+) -> usize
     ensures { λ r. ⌜ _≡_ {A = Desk} (record { room = now (out .exit); at = r }) (wrote (record { room = now (out .entry); at = at }) (timesWords kind value times inside)) ⌝ }
 {
     if times <= 1 {

@@ -70,7 +70,13 @@ fn runs() {
 
 // Data in a row, to every end that a run has; and each event by itself.
 fn folds() {
-    tried(b"explain tiny, of folds", Asked::Explain, b"tiny", b"", b"folds");
+    tried(
+        b"explain tiny, of folds",
+        Asked::Explain,
+        b"tiny",
+        b"",
+        b"folds",
+    );
     tried(
         b"explain -v tiny",
         Asked::ExplainEach,
@@ -78,7 +84,13 @@ fn folds() {
         b"tiny",
         b"rows",
     );
-    tried(b"explain tiny, of rows", Asked::Explain, b"tiny", b"", b"rows");
+    tried(
+        b"explain tiny, of rows",
+        Asked::Explain,
+        b"tiny",
+        b"",
+        b"rows",
+    );
     tried(
         b"explain tiny, of nothing",
         Asked::Explain,
@@ -128,10 +140,34 @@ fn dumps() {
 }
 
 fn diffs() {
-    tried(b"diff tiny again", Asked::Diff, b"tiny", b"again", b"nothing");
-    tried(b"diff again again", Asked::Diff, b"again", b"again", b"nothing");
-    tried(b"diff made third", Asked::Diff, b"made", b"third", b"nothing");
-    tried(b"diff made other", Asked::Diff, b"made", b"other", b"nothing");
+    tried(
+        b"diff tiny again",
+        Asked::Diff,
+        b"tiny",
+        b"again",
+        b"nothing",
+    );
+    tried(
+        b"diff again again",
+        Asked::Diff,
+        b"again",
+        b"again",
+        b"nothing",
+    );
+    tried(
+        b"diff made third",
+        Asked::Diff,
+        b"made",
+        b"third",
+        b"nothing",
+    );
+    tried(
+        b"diff made other",
+        Asked::Diff,
+        b"made",
+        b"other",
+        b"nothing",
+    );
 }
 
 fn pages() {
