@@ -109,8 +109,13 @@ def _write_array(file: BinaryIO, part: Part, marks: Iterable[Tuple[int, int]]) -
         file.write(bytes((mark,)))
 
 
-def _with_data(base: int, length: int) -> Set[int]:
-    """Which stretches of a file have bytes on the disk; the others are holes."""
+def stretches_of(start: int, length: int) -> range:
+    """The numbers of the stretches that hold these bytes."""
+    return range(start // _STRETCH, (start + length + _STRETCH - 1) // _STRETCH)
+
+
+def with_data(base: int, length: int) -> Set[int]:
+    """Which stretches of a file have bytes on the disk; the others are holes, all 00h."""
     found: Set[int] = set()
     at = 0
     while at < length:
@@ -119,7 +124,7 @@ def _with_data(base: int, length: int) -> Set[int]:
         except OSError:
             break
         end = os.lseek(base, at, os.SEEK_HOLE)
-        found.update(range(at // _STRETCH, (end + _STRETCH - 1) // _STRETCH))
+        found.update(stretches_of(at, end - at))
         at = end
     return found
 
@@ -137,7 +142,7 @@ def _stretches(view: memoryview, base: Optional[int]) -> Iterator[int]:
         yield from starts
         return
     try:
-        data = _with_data(base, len(view))
+        data = with_data(base, len(view))
         place = ctypes.addressof(ctypes.c_uint8.from_buffer(view)) // mmap.PAGESIZE * 8
         for start in starts:
             entries = -(-min(_STRETCH, len(view) - start) // mmap.PAGESIZE) * 8

@@ -91,7 +91,7 @@ class Part:
 
     def lun_of(self, row: int) -> int:
         """The LUN field of a row, whether that LUN exists or not."""
-        return row >> (_bits(self.blocks) + _bits(self.pages))
+        return checks.number("row", row, 0, 0xFFFFFF) >> (_bits(self.blocks) + _bits(self.pages))
 
     def page_number(self, lun: int, block: int, page: int) -> int:
         """Which page it is in the order of the array: LUN, block, page. ValueError where there is none."""
