@@ -166,6 +166,25 @@ class Header(unittest.TestCase):
         self.assertEqual(sorted(named - there), [])
         self.assertGreater(len(named), 10)
 
+    def test_it_declares_what_the_library_has(self) -> None:
+        text = (ROOT / "include" / "nibtoggle.h").read_text(encoding="utf-8")
+        code = re.sub(r"/\*.*?\*/", " ", text, flags=re.S)
+        outside = re.sub(r"static inline [^{;]*\{.*?\n?\}\n", " ", code, flags=re.S)
+        declared = set(re.findall(r"^(?:u?int\d+_t|size_t) (nib_\w+)\(", outside, re.M))
+        for name, words in (("libnibtoggle.so", ["-D"]), ("libnibtoggle.a", [])):
+            said = done(["nm", "--defined-only", "--extern-only", *words, str(ROOT / "target" / "host" / name)])
+            self.assertEqual(set(re.findall(r" T (\w+)$", said.stdout, re.M)), declared, name)
+        self.assertGreater(len(declared), 20)
+
+    def test_the_papers_name_no_function_that_does_not_exist(self) -> None:
+        header = (ROOT / "include" / "nibtoggle.h").read_text(encoding="utf-8")
+        # crates, and records and enums of the header, have such names too; `nib_text_*` is a family
+        there = set(re.findall(r"\b[nN][iI][bB]_\w+", re.sub(r"/\*.*?\*/", " ", header, flags=re.S))) | \
+            {path.name for path in (ROOT / "crates").iterdir()}
+        for path in (ROOT / "README.md", *sorted((ROOT / "docs").rglob("*.md"))):
+            named = set(re.findall(r"(?<![\w.·/])(?:nib|NIB)_\w+(?!\w|\*)", path.read_text(encoding="utf-8")))
+            self.assertEqual(sorted(name for name in named - there if not name.endswith("_")), [], path.name)
+
     def test_its_words_are_the_library_s(self) -> None:
         said = done([sys.executable, str(ROOT / "tools" / "words.py"), "--check"])
         self.assertEqual((said.returncode, said.stdout), (0, ""))

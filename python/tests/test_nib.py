@@ -4,6 +4,7 @@ from __future__ import annotations
 import errno
 import os
 import random
+import re
 import shutil
 import subprocess
 import sys
@@ -366,10 +367,52 @@ class Defects(Nib):
             self.assertEqual("nib: %s\n" % caught.exception, error)
 
     def test_a_field_is_named(self) -> None:
-        (self.folder / "wide").write_bytes(parameter_page(pages=300, luns=9))
-        error = self.nib("new", "x", "wide")[1]
-        self.assertEqual(error, "nib: wide: power-on refused 23: %s; pages a block: 300, and 1 to 256 are taken; LUNs: 9, and 1 to 4 are taken\n"
-                         % nibtoggle.RULES[23])
+        wide = parameter_page(pages=300, luns=9)
+        (self.folder / "wide").write_bytes(wide)
+        self.good("new", "t1")
+        (self.part / "page").write_bytes(wide)
+        told = ": power-on refused 23: %s; pages a block: 300, and 1 to 256 are taken; LUNs: 9, and 1 to 4 are taken\n" % nibtoggle.RULES[23]
+        for words, path in ((["new", "x", "wide"], "wide"), (["run", "t1"], "t1/page"), (["explain", "t1"], "t1/page"), (["text", "t1"], "t1/page"),
+                            (["jobs", "t1"], "t1/page")):
+            self.assertEqual(self.nib(*words), (b"", "nib: " + path + told))
+        # and by Python, in the same words
+        for words, path in ((["new", "x", "wide"], "wide"), (["run", "t1"], "t1/page"), (["explain", "t1"], "t1/page")):
+            self.assertEqual(self.python(*words), (1, b"", "nibtoggle: " + path + told))
+
+    def python(self, *words: str, given: bytes = b"") -> Tuple[int, bytes, str]:
+        """The same call of `python3 -m nibtoggle`."""
+        environment = dict(os.environ, PYTHONPATH=str(ROOT / "python"), PYTHONDONTWRITEBYTECODE="1")
+        done = subprocess.run([sys.executable, "-m", "nibtoggle", *words], input=given, env=environment, cwd=self.folder,
+                              stdout=subprocess.PIPE, stderr=subprocess.PIPE)
+        return done.returncode, done.stdout, done.stderr.decode()
+
+    def test_help_has_one_style(self) -> None:
+        """A line a call: the call, blanks up to a column, and words that are the same wherever both have the call."""
+        mine, theirs = self.good("help").decode(), self.python("help")[1].decode()
+        calls = []
+        for name, said in (("nib", mine), ("nibtoggle", theirs)):
+            lines = [re.fullmatch("  %s (.+?)  +(.+)" % name, line) for line in said.splitlines()]
+            self.assertTrue(all(lines), said)
+            calls.append({line.group(1): line.group(2) for line in lines if line})
+        both = calls[0].keys() & calls[1].keys()
+        self.assertGreaterEqual({call.split()[0] for call in both}, {"new", "parts", "run", "explain", "page", "text", "jobs", "version", "help"})
+        for call in both:
+            self.assertEqual(calls[0][call], calls[1][call])
+        self.assertEqual([call for call in calls[0] if call in both], [call for call in calls[1] if call in both])
+        self.assertTrue(self.nib("nonsense")[1] == "nib: no such call; these are:\n" + mine)
+        self.assertEqual(self.python("nonsense"), (2, b"", "nibtoggle: no such call; these are:\n" + theirs))
+
+    def test_page_is_python_s(self) -> None:
+        spoilt = bytearray(parameter_page(luns=1, any_order=True, copyback=True))
+        spoilt[101], spoilt[6], spoilt[32], spoilt[44] = 0x22, 0x05, 0x1F, 0x7F
+        pages = [parameter_page(), bytes(spoilt), parameter_page(data=8, spare=4096, pages=0, blocks=5000, luns=4, programs=9), PARTS["W"].page,
+                 bytes(256), bytes(256) + 2 * parameter_page(), bytes(range(256))]
+        for number, page in enumerate(pages):
+            (self.folder / str(number)).write_bytes(page)
+            self.assertEqual((0, self.good("page", str(number)), ""), self.python("page", str(number)))
+        self.good("new", "t1")
+        self.good("run", "t1", given=self.trace)
+        self.assertEqual((0, self.good("page", "t1"), ""), self.python("page", "t1"))
 
     def test_words_are_one_table(self) -> None:
         shutil.copytree(NIBS / "tiny", self.folder / "tiny")
@@ -381,6 +424,20 @@ class Defects(Nib):
                 self.assertEqual(words.split(" (LUN")[0], nibtoggle.RULES[int(number)])
                 met.add(int(number))
         self.assertEqual(met, set(range(1, 13)))
+        # a copyback that is not open; a power-on that is refused, and what comes after it
+        self.good("new", "w", "W")
+        self.assertIn("refused 14: %s\n" % nibtoggle.RULES[14],
+                      self.good("explain", "w", given=records_of("c ff c 85 a 00 00 00 00 00")).decode())
+        (self.folder / "w" / "flags").write_bytes(bytes(15) + b"\2")
+        lines = self.good("explain", "w", given=b"\0\xFF").decode().splitlines()
+        self.assertEqual(lines[0], "power-on refused 25: " + nibtoggle.RULES[25])
+        self.assertTrue(lines[1].endswith("refused 13: " + nibtoggle.RULES[13]))
+        good = parameter_page()
+        for number, page in ((20, good[:255]), (21, b"INFO" + good[4:]), (22, good[:254] + b"\0\0"), (23, parameter_page(luns=5))):
+            (self.folder / "page").write_bytes(page)
+            self.assertTrue(self.nib("new", "x", "page")[1].startswith("nib: page: power-on refused %d: %s" % (number, nibtoggle.RULES[number])))
+        # 16 and 24 are no answers to nib's: its rooms are long enough, and a file of another length is told of by its name
+        self.assertEqual(sorted(nibtoggle.RULES), [*range(1, 15), 16, *range(20, 26)])
 
     def test_parts_and_version(self) -> None:
         self.assertEqual(self.good("version").decode(), "nib %s\n" % nibtoggle.__version__)
@@ -388,10 +445,13 @@ class Defects(Nib):
         python = subprocess.run([sys.executable, "-m", "nibtoggle", "parts"], env=dict(os.environ, PYTHONPATH=str(ROOT / "python")),
                                 stdout=subprocess.PIPE, text=True).stdout.splitlines()
         self.assertEqual([line for line in known if not line.startswith("more than")], python)
-        said, error = self.nib("new", "x", "MT29F256G08AUAAAC5")
-        self.assertEqual(said, b"")
-        self.assertIn("python3 -m nibtoggle new makes it", error)
-        self.assertFalse((self.folder / "x").exists())
+        for name in PARTS:
+            said, error = self.nib("new", name, name)
+            if name.startswith("MT29F"):
+                self.assertEqual((said, error), (b"", "nib: %s: the part is more than nib holds; python3 -m nibtoggle new makes it\n" % name))
+                self.assertFalse((self.folder / name).exists())
+            else:
+                self.assertEqual((error, held(self.folder / name)["page"][0]), ("", PARTS[name].page))
 
 
 class Jobs(Nib):
