@@ -29,6 +29,29 @@ class Versions(unittest.TestCase):
         said = done([sys.executable, str(ROOT / "tools" / "version"), "--check"])
         self.assertEqual((said.returncode, said.stdout), (0, ""))
 
+    def test_a_new_one_is_set_everywhere(self) -> None:
+        places = ("VERSION", "tools/version", "include/nibtoggle.h", "docs/CHANGELOG.md", "python/nibtoggle/__init__.py",
+                  "crates/nib_speech/src/lib.rt", "crates/nib_speech/specs/Speech.antt")
+        with tempfile.TemporaryDirectory() as folder:
+            for name in places:
+                (Path(folder) / name).parent.mkdir(parents=True, exist_ok=True)
+                shutil.copy(ROOT / name, Path(folder) / name)
+            check = [sys.executable, str(Path(folder) / "tools" / "version"), "--check"]
+            self.assertEqual(done(check).stdout, "")
+            log = Path(folder) / "docs" / "CHANGELOG.md"
+            log.write_text("# Changes\n\n## 9.8.7, to come\n\n## %s\n" % VERSION, encoding="utf-8")
+            self.assertEqual(done(check).stdout, "")
+            self.assertEqual(done(check[:-1] + ["9.8.7"]).returncode, 0)
+            self.assertEqual((done(check).stdout, log.read_text(encoding="utf-8").splitlines()[2]), ("", "## 9.8.7"))
+            # each place is looked at: one that has the old number is named
+            for name in places[2:]:
+                new = (Path(folder) / name).read_text(encoding="utf-8")
+                shutil.copy(ROOT / name, Path(folder) / name)
+                said = done(check)
+                self.assertEqual(said.returncode, 1)
+                self.assertIn(name, said.stdout)
+                (Path(folder) / name).write_text(new, encoding="utf-8")
+
     def test_the_library_has_it_too(self) -> None:
         import nibtoggle
         number = nibtoggle.Library.found().version()

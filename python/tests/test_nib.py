@@ -519,7 +519,8 @@ class Jobs(Nib):
         text = b"program 1 5 3 0 " + data.hex(" ").encode()
         self.assertLess(1048000, len(text))
         trace = self.good("text", "t1", given=text)
-        self.assertEqual((len(trace), trace[13:-2:2]), (14 + 2 * len(data), data))
+        self.assertEqual(len(trace), 14 + 2 * len(data))
+        self.assertTrue(trace[13:-2:2] == data)                 # no comparing line by line where they differ: it takes minutes
         self.assertEqual(self.good("jobs", "t1", given=trace), b"     1  program LUN 1 block 5 page 3, column 0, 349440 bytes\n")
         self.assertEqual(self.good("text", "t1", given=b"read-out 0 0 65535"), records_of("c 06 a 00 00 00 00 00 c e0 o 65535"))
 
