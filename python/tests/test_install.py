@@ -189,6 +189,31 @@ class Header(unittest.TestCase):
         self.assertEqual(sorted(named - there), [])
         self.assertGreater(len(named), 10)
 
+    def test_the_checked_row(self) -> None:
+        """nib_row_of answers whether the numbers exist, and gives a row only then."""
+        program = """#include "nibtoggle.h"
+#include <stdio.h>
+int main(void) {
+    const nib_part part = {528, 3, 5, 2};
+    for (unsigned i = 0; i < 3 * 6 * 4; i++) {
+        uint32_t row = 7777;
+        int there = nib_row_of(part, i / 24, i / 4 % 6, i % 4, &row);
+        printf("%u %u %u %d %u\\n", i / 24, i / 4 % 6, i % 4, there, (unsigned)row);
+    }
+    return 0;
+}
+"""
+        with tempfile.TemporaryDirectory() as folder:
+            (Path(folder) / "row.c").write_text(program, encoding="utf-8")
+            built = done(["cc", "-std=c11", "-Wall", "-Wextra", "-Werror", "-I%s" % (ROOT / "include"), "row.c", "-o", "row"], cwd=folder)
+            self.assertEqual(built.returncode, 0, built.stdout)
+            lines = done([str(Path(folder) / "row")]).stdout.splitlines()
+        self.assertEqual(len(lines), 72)
+        for line in lines:
+            lun, block, page, there, row = map(int, line.split())
+            exists = lun < 2 and block < 5 and page < 3
+            self.assertEqual((there, row), (1, (lun << 3 | block) << 2 | page) if exists else (0, 7777))
+
     def test_it_declares_what_the_library_has(self) -> None:
         text = (ROOT / "include" / "nibtoggle.h").read_text(encoding="utf-8")
         code = re.sub(r"/\*.*?\*/", " ", text, flags=re.S)
