@@ -309,7 +309,7 @@ class Commands(Tried):
 
     def test_a_part_that_nib_can_not_hold(self) -> None:
         """Every command on a folder of 9 GB; nib holds 4 MiB of array."""
-        name, script = "MT29F128G08AJAAAWP", b"c ff\nerase 1 4095  f 1\nprogram 1 4095 127 8000 3c a5  f 1\nread 1 4095 127 8000  f 1  o 3\n"
+        name, script = "MT29F128G08AJAAAWP", b"c ff\nerase 1 4095  f 1\nerase 0 7  f 0\nprogram 1 4095 127 8000 3c a5  f 1\nread 1 4095 127 8000  f 1  o 3\n"
         for folder in ("large", "same"):
             status, said, error = self.call("new", folder, name)
             self.assertEqual((status, said), (0, b"%s: page 256 bytes, id 1, array 9059696640, counts 1048576, flags 8192\n" % folder.encode()))
@@ -319,7 +319,7 @@ class Commands(Tried):
         status, trace, _ = self.call("text", "large", given=script)
         self.assertEqual(status, 0)
         status, said, _ = self.call("jobs", "large", given=trace)
-        self.assertEqual((status, said.splitlines()[3]), (0, b"     8  program LUN 1 block 4095 page 127, column 8000, 2 bytes"))
+        self.assertEqual((status, said.splitlines()[5]), (0, b"    14  program LUN 1 block 4095 page 127, column 8000, 2 bytes"))
         for written, command in ((0, "explain"), (1, "run")):
             status, said, error = self.call(command, "large", given=trace)
             self.assertEqual((status, error), (0, ""))
@@ -328,9 +328,10 @@ class Commands(Tried):
             self.assertEqual(status, 0)
             self.assertIn(b"LUN 1, block 4095, page 127: programmed %d times" % written, said)
             status, said, _ = self.call("diff", "large", "same")
-            self.assertEqual((status, said.count(b"\n")), (3, 129) if written else (0, 0))      # 128 pages that were erased, a count
+            self.assertEqual((status, said.count(b"\n")), (3, 257) if written else (0, 0))      # 2 times 128 pages, a count
         self.assertIn(b"LUN 1, block 4095, page 127: 8640 bytes differ, the first at column 0: FFh and 00h", said)
         self.assertIn(b"LUN 1, block 4095, page 127: programmed 1 times and 0", said)
+        self.assertIn(b"LUN 0, block 7, page 0: 8640 bytes differ, the first at column 0: FFh and 00h", said)
         self.assertLess(sum(file.stat().st_blocks * 512 for file in (self.folder / "large").iterdir()), 16 << 20)
 
     def test_a_page_of_another_length_is_told_as_it_is(self) -> None:
