@@ -4,6 +4,7 @@ from __future__ import annotations
 import ctypes
 import mmap
 import os
+from contextlib import contextmanager
 from pathlib import Path
 from typing import BinaryIO, Iterable, Iterator, List, NamedTuple, Optional, Sequence, Set, Tuple, Union
 
@@ -32,8 +33,15 @@ class FolderError(OSError):
     """A part folder is not one: the message names the file and what is wrong with it."""
 
 
-def _lengths(part: Part) -> List[Tuple[str, int]]:
-    return [("array", part.array_length), ("counts", part.counts_length), ("flags", part.flags_length)]
+@contextmanager
+def _naming(path: Path) -> Iterator[None]:
+    """What goes wrong with a file that is open says its name too."""
+    try:
+        yield
+    except OSError as failed:
+        if failed.errno is None or failed.filename is not None:
+            raise
+        raise OSError(failed.errno, failed.strerror, str(path)) from failed
 
 
 def _file(folder: Path, name: str, due: int) -> bytes:
@@ -81,7 +89,7 @@ def make(path: Path, page: bytes, device_id: int, flags: Sequence[int] = (), mar
     try:
         for name, contents in (("page", page), ("id", bytes((device_id,))), ("array", None),
                                ("counts", bytes(part.counts_length)), ("flags", held)):
-            with open(path / name, "xb") as file:
+            with _naming(path / name), open(path / name, "xb") as file:
                 made.append(path / name)
                 if contents is not None:
                     file.write(contents)
@@ -156,7 +164,7 @@ def _stretches(view: memoryview, base: Optional[int]) -> Iterator[int]:
 def _write_beside(path: Path, contents: Buffer, base: Optional[int]) -> None:
     """The file's new contents beside it, on the disk. What is all 00h is left a hole."""
     zeros = bytes(_STRETCH)
-    with memoryview(contents) as view, open(path, "wb") as file:
+    with _naming(path), memoryview(contents) as view, open(path, "wb") as file:
         file.truncate(len(view))
         for at in _stretches(view, base):
             stretch = view[at:at + _STRETCH]

@@ -3,6 +3,7 @@ from __future__ import annotations
 
 import os
 import re
+import resource
 import subprocess
 import sys
 import tempfile
@@ -394,6 +395,15 @@ class Commands(Tried):
         self.assertEqual(done.returncode, 1, done.stderr)
         self.assertIn(b"No space left on device", done.stderr)
         self.assertEqual(files(self.folder / "t1"), before)
+        # files can't grow past a limit
+        for words, named in ((["run", "t1"], "t1/array.new"), (["new", "other"], "other/array")):
+            done = subprocess.run([sys.executable, "-m", "nibtoggle", *words], input=b"\0\xFF", env=environment, cwd=self.folder,
+                                  stdout=subprocess.PIPE, stderr=subprocess.PIPE,
+                                  preexec_fn=lambda: resource.setrlimit(resource.RLIMIT_FSIZE, (20000, 20000)))
+            self.assertEqual(done.returncode, 1)
+            self.assertEqual(done.stderr.decode(), "nibtoggle: %s: File too large\n" % named)
+            self.assertEqual(files(self.folder / "t1"), before)
+            self.assertFalse((self.folder / "other").exists())
 
     def test_page_and_parts(self) -> None:
         (self.folder / "page").write_bytes(MAKERS[256:512] + MAKERS[:512])

@@ -5,7 +5,9 @@ import errno
 import os
 import random
 import re
+import resource
 import shutil
+import signal
 import subprocess
 import sys
 import tempfile
@@ -36,6 +38,12 @@ Held = Dict[str, Tuple[bytes, int]]
 def held(folder: Path) -> Held:
     """Every file of a folder: what it has, and when it was written."""
     return {path.name: (path.read_bytes(), path.stat().st_mtime_ns) for path in sorted(folder.iterdir())}
+
+
+def no_file_longer_than(limit: int) -> None:
+    """For a program that is to be started: a write past the limit fails, and ends nothing."""
+    signal.signal(signal.SIGXFSZ, signal.SIG_IGN)
+    resource.setrlimit(resource.RLIMIT_FSIZE, (limit, limit))
 
 
 class Nib(unittest.TestCase):
@@ -187,6 +195,32 @@ class Failures(Nib):
                     self.assertIn(os.strerror(number), error, (kind, nth))
                     self.assertTrue(error.startswith("nib: "), error)
                     self.assertEqual(held(self.part), before, (kind, nth))
+
+    def test_a_disk_that_is_full_is_real(self) -> None:
+        """No call is made to fail: files can't grow past a limit, so a write takes a part of the bytes, and the next one none."""
+        before = held(self.part)
+        for limit in (0, 1, 20000, 33791):
+            for words in (["run", "t1"], ["new", "other"]):
+                done = subprocess.run([str(self.program), *words], input=self.more, cwd=self.folder, stdout=subprocess.PIPE,
+                                      stderr=subprocess.PIPE, text=False, preexec_fn=lambda: no_file_longer_than(limit))
+                self.assertIn(b": File too large\n", done.stderr)
+                self.assertEqual(held(self.part), before)
+                self.assertFalse((self.folder / "other").exists())
+
+    def test_a_folder_that_can_not_be_written_is_real(self) -> None:
+        # root may write anywhere, unless that is taken from it
+        alone = ["setpriv", "--bounding-set=-dac_override,-dac_read_search"] if os.geteuid() == 0 else []
+        self.addCleanup(self.folder.chmod, 0o755)
+        self.addCleanup(self.part.chmod, 0o755)
+        before = held(self.part)
+        self.part.chmod(0o555)
+        self.folder.chmod(0o555)
+        for words, told in ((["run", "t1"], "t1/array.new"), (["new", "other"], "other")):
+            done = subprocess.run([*alone, str(self.program), *words], input=self.more, cwd=self.folder, stdout=subprocess.PIPE,
+                                  stderr=subprocess.PIPE)
+            self.assertEqual(done.stderr.decode(), "nib: %s: Permission denied\n" % told)
+            self.assertEqual(held(self.part), before)
+            self.assertFalse((self.folder / "other").exists())
 
     def test_a_rename_that_fails_late_is_told_and_leaves_nothing_over(self) -> None:
         for nth in (2, 3):
