@@ -4,6 +4,7 @@
 """
 from __future__ import annotations
 
+import errno
 import os
 import sys
 import warnings
@@ -153,11 +154,21 @@ def page(words: Sequence[str], out: TextIO) -> int:
     return OK
 
 
+def _read(size: int = -1) -> bytes:
+    """Standard input, so many bytes of it or all."""
+    try:
+        if sys.stdin is None:               # it was closed before Python began
+            raise OSError(errno.EBADF, os.strerror(errno.EBADF))
+        return sys.stdin.buffer.read(size)
+    except OSError as failed:
+        raise Failed("standard input: %s" % failed.strerror) from None
+
+
 def _input() -> Iterator[bytes]:
     """Standard input in stretches, each of whole records but the last."""
     kept = b""
     while True:
-        got = sys.stdin.buffer.read(_STRETCH)
+        got = _read(_STRETCH)
         if not got:
             break
         kept += got
@@ -227,16 +238,16 @@ def _part_in(words: Sequence[str]) -> Optional[Part]:
 
 def text_or_back(words: Sequence[str], out: TextIO) -> int:
     if list(words) == ["-d"]:
-        out.write(text.text_of(sys.stdin.buffer.read()))
+        out.write(text.text_of(_read()))
         return OK
     part = _part_in(words)
-    out.buffer.write(text.records_of(sys.stdin.buffer.read(), "standard input", part=part))
+    out.buffer.write(text.records_of(_read(), "standard input", part=part))
     return OK
 
 
 def jobs_told(words: Sequence[str], out: TextIO) -> int:
     part = _part_in(words)
-    for line in jobs.told(sys.stdin.buffer.read(), part):
+    for line in jobs.told(_read(), part):
         out.write("%6d  %s\n" % line)
     return OK
 
@@ -361,6 +372,8 @@ def _asked(words: Sequence[str]) -> Tuple[Command, Sequence[str]]:
 def main(words: Sequence[str]) -> int:
     try:
         command, rest = _asked(words)
+        if sys.stdout is None:
+            raise Failed("standard output: %s" % os.strerror(errno.EBADF))
         status = command(rest, sys.stdout)
         sys.stdout.flush()
         return status
@@ -375,7 +388,7 @@ def main(words: Sequence[str]) -> int:
     except (Failed, folder.FolderError, text.BadWord) as failed:
         print("%s: %s" % (NAME, failed), file=sys.stderr)
     except OSError as failed:
-        where = failed.filename if failed.filename is not None else "standard input or output"
+        where = failed.filename if failed.filename is not None else "standard output"
         print("%s: %s: %s" % (NAME, where, failed.strerror or failed), file=sys.stderr)
     except ValueError as failed:
         print("%s: %s" % (NAME, failed), file=sys.stderr)
@@ -385,6 +398,8 @@ def main(words: Sequence[str]) -> int:
 
 def _drop_output() -> None:
     """What could not be written is not tried again at exit."""
+    if sys.stdout is None:
+        return
     try:
         sys.stdout.flush()
     except OSError:

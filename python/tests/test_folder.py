@@ -405,6 +405,21 @@ class Commands(Tried):
             self.assertEqual(files(self.folder / "t1"), before)
             self.assertFalse((self.folder / "other").exists())
 
+    def test_inputs_and_outputs_that_fail(self) -> None:
+        self.call("new", "t1")
+        before = files(self.folder / "t1")
+        environment = dict(os.environ, PYTHONPATH=str(ROOT / "python"), PYTHONDONTWRITEBYTECODE="1")
+        for shell, told in (("run t1 <&-", "standard input: Bad file descriptor"), ("text <&-", "standard input: Bad file descriptor"),
+                            ("jobs <&-", "standard input: Bad file descriptor"), ("explain t1 < trace >&-", "standard output: Bad file descriptor"),
+                            ("run t1 < trace > /dev/full", "standard output: No space left on device"),
+                            ("explain t1 < trace > /dev/full", "standard output: No space left on device"),
+                            ("help > /dev/full", "standard output: No space left on device")):
+            (self.folder / "trace").write_bytes(b"\0\xFF")
+            done = subprocess.run(["sh", "-c", '"$0" -m nibtoggle ' + shell, sys.executable], cwd=self.folder, env=environment,
+                                  stdout=subprocess.PIPE, stderr=subprocess.PIPE, text=True)
+            self.assertEqual((done.returncode, done.stdout, done.stderr), (1, "", "nibtoggle: %s\n" % told), shell)
+            self.assertEqual(files(self.folder / "t1"), before)
+
     def test_page_and_parts(self) -> None:
         (self.folder / "page").write_bytes(MAKERS[256:512] + MAKERS[:512])
         status, said, _ = self.call("page", "page")

@@ -73,8 +73,19 @@ class Prefix(unittest.TestCase):
     def test_all_of_it(self) -> None:
         self.library_by_pkg_config()
         self.package_and_commands()
-        # a second time over the first
-        self.assertEqual(done([str(ROOT / "tools" / "install"), str(self.prefix)]).returncode, 0)
+        # a second time over the first; and beside, for whoever makes a package of it
+        self.assertEqual(done([str(ROOT / "tools" / "install"), str(self.prefix)], env={"PYTHON": sys.executable}).returncode, 0)
+        stage = self.prefix.parent / "stage"
+        said = done([str(ROOT / "tools" / "install"), "/nowhere/nib"], env={"PYTHON": sys.executable, "DESTDIR": str(stage)})
+        self.assertEqual(said.returncode, 0, said.stdout)
+        self.assertFalse(Path("/nowhere").exists())
+
+        def listed(folder: Path) -> List[str]:
+            mine = ("program", "own.so", "linked")          # made by this test
+            return sorted(str(path.relative_to(folder)) for path in folder.rglob("*") if path.name not in mine and "__pycache__" not in path.parts)
+
+        self.assertEqual(listed(stage / "nowhere" / "nib"), listed(self.prefix))
+        self.assertIn("prefix=/nowhere/nib\n", (stage / "nowhere" / "nib" / "lib" / "pkgconfig" / "nibtoggle.pc").read_text(encoding="utf-8"))
 
     def library_by_pkg_config(self) -> None:
         lib = self.prefix / "lib"
