@@ -374,7 +374,8 @@ class Bench:
         the LUN's finish, unless it is left working. A failed program is accepted: ask `status`. It fails where `program`
         does, out of page order too."""
         row = checks.row(self.part, lun, block, page, row)
-        return self._job(_command(0x85) + self._records_of("program", row, column, data=checks.data(data))[2:], row, finish)
+        program = self._records_of("program", row, column, data=checks.data(data))
+        return self._job(_command(0x85) + program[2:], row, finish)
 
     def read_page(self, lun: Optional[int] = None, block: Optional[int] = None, page: Optional[int] = None, column: int = 0,
                   count: Optional[int] = None, *, row: Optional[int] = None) -> bytes:

@@ -54,7 +54,8 @@ def _page_in(path: Path) -> bytes:
         held = file.read(3 * PAGE_LENGTH + 1)
     if len(held) in (PAGE_LENGTH, 3 * PAGE_LENGTH):
         return parts.page_of(held)
-    raise _refused(path, Refused(20, detail="there are %s" % (len(held) if len(held) <= 3 * PAGE_LENGTH else "more than 768")))
+    told = "there are %s" % (len(held) if len(held) <= 3 * PAGE_LENGTH else "more than 768")
+    raise _refused(path, Refused(20, detail=told))
 
 
 def _refused(path: Union[str, Path], refused: Refused) -> Failed:
@@ -117,8 +118,8 @@ def _page_lines(bytes_: bytes) -> Iterator[Tuple[str, str]]:
     features = number(6, 2)
     yield "length", "%d" % len(bytes_)
     yield "signature", letters(0, 4)
-    yield "features", _bits(features, (0, "16-bit bus (not taken)"), (1, "more than one LUN"), (2, "pages in any order"),
-                            (8, "program-clear"))
+    yield "features", _bits(features, (0, "16-bit bus (not taken)"), (1, "more than one LUN"),
+                            (2, "pages in any order"), (8, "program-clear"))
     yield "optional commands", _bits(number(8, 2), (2, "EEh and EFh"), (3, "78h"), (6, "06h"))
     yield "maker", letters(32, 44)
     yield "model", letters(44, 64)

@@ -196,7 +196,7 @@ class Papers(Tried):
     """docs/PARTS.md has the folder byte by byte."""
 
     TEXT = (ROOT / "docs" / "PARTS.md").read_text(encoding="utf-8")
-    ROWS = {name: (length, place) for name, length, place in re.findall(r"^\| `(\w+)` \| (.+?) \| (.+?) \|$", TEXT, re.M)}
+    ROWS = {row[1]: (row[2], row[3]) for row in re.finditer(r"^\| `(\w+)` \| (.+?) \| (.+?) \|$", TEXT, re.M)}
 
     @staticmethod
     def number(words: str, **names: int) -> int:
@@ -219,7 +219,8 @@ class Papers(Tried):
             held = files(path)
             self.assertEqual({name: len(contents) for name, contents in held.items()},
                              {name: self.number(length, **sizes) for name, (length, _) in self.ROWS.items()})
-            at = {name: self.number(words.split("i = ")[1], **sizes, **place) for name, (_, words) in self.ROWS.items() if "i = " in words}
+            at = {name: self.number(words.split("i = ")[1], **sizes, **place)
+                  for name, (_, words) in self.ROWS.items() if "i = " in words}
             self.assertEqual(sorted(at), ["array", "counts", "flags", "registers"])
             self.assertEqual(held["array"], bytes(0xFF if i != at["array"] else 0x3C for i in range(part.array_length)))
             self.assertEqual(held["counts"], bytes(i == at["counts"] for i in range(part.counts_length)))
@@ -228,8 +229,10 @@ class Papers(Tried):
             with Bench.open(path, strict=False) as bench:
                 bench.reset()
                 # the last block of the last LUN is bad, and no other
-                self.assertTrue(bench.program(part.luns - 1, part.blocks - 1, 0, b"x").ok and bench.status().fail)      # type: ignore[union-attr]
-                self.assertTrue(bench.erase(part.luns - 1, place["b"]).ok and not bench.status().fail)                  # type: ignore[union-attr]
+                self.assertTrue(bench.program(part.luns - 1, part.blocks - 1, 0, b"x").ok)
+                self.assertEqual(repr(bench.status()), "Status(E1h: ready, failed)")
+                self.assertTrue(bench.erase(part.luns - 1, place["b"]).ok)
+                self.assertEqual(repr(bench.status()), "Status(E0h: ready)")
 
     def test_its_limits(self) -> None:
         for said, number in (("up to 4,194,304 bytes", 4 << 20), ("67,108,864 bytes (64 MiB)", LARGE)):
@@ -310,26 +313,32 @@ class Commands(Tried):
 
     def test_a_part_that_nib_can_not_hold(self) -> None:
         """Every command on a folder of 9 GB; nib holds 4 MiB of array."""
-        name, script = "MT29F128G08AJAAAWP", b"c ff\nerase 1 4095  f 1\nerase 0 7  f 0\nprogram 1 4095 127 8000 3c a5  f 1\nread 1 4095 127 8000  f 1  o 3\n"
+        name = "MT29F128G08AJAAAWP"
+        script = (b"c ff\nerase 1 4095  f 1\nerase 0 7  f 0\nprogram 1 4095 127 8000 3c a5  f 1\n"
+                  b"read 1 4095 127 8000  f 1  o 3\n")
         for folder in ("large", "same"):
             status, said, error = self.call("new", folder, name)
-            self.assertEqual((status, said), (0, b"%s: page 256 bytes, id 1, array 9059696640, counts 1048576, flags 8192\n" % folder.encode()))
+            made = b": page 256 bytes, id 1, array 9059696640, counts 1048576, flags 8192\n"
+            self.assertEqual((status, said), (0, folder.encode() + made))
             self.assertIn("%s/array is new and has 9059696640 bytes: unwritten ones are 00h" % folder, error)
         status, said, _ = self.call("page", "large")
         self.assertEqual((status, said.splitlines()[-1]), (0, b"blank blocks       LUN 0: 4096, LUN 1: 4096"))
         status, trace, _ = self.call("text", "large", given=script)
         self.assertEqual(status, 0)
         status, said, _ = self.call("jobs", "large", given=trace)
-        self.assertEqual((status, said.splitlines()[5]), (0, b"    14  program LUN 1 block 4095 page 127, column 8000, 2 bytes"))
+        told = b"    14  program LUN 1 block 4095 page 127, column 8000, 2 bytes"
+        self.assertEqual((status, said.splitlines()[5]), (0, told))
         for written, command in ((0, "explain"), (1, "run")):
             status, said, error = self.call(command, "large", given=trace)
             self.assertEqual((status, error), (0, ""))
-            self.assertEqual(said[-6:] if written else said.splitlines()[-3][-8:], b"\x01\x3C\x01\xA5\x01\xFF" if written else b"byte 3Ch")
+            self.assertEqual(said[-6:] if written else said.splitlines()[-3][-8:],
+                             b"\x01\x3C\x01\xA5\x01\xFF" if written else b"byte 3Ch")
             status, said, _ = self.call("dump", "large", "1", "4095", "127")
             self.assertEqual(status, 0)
             self.assertIn(b"LUN 1, block 4095, page 127: programmed %d times" % written, said)
             status, said, _ = self.call("diff", "large", "same")
-            self.assertEqual((status, said.count(b"\n")), (3, 257) if written else (0, 0))      # 2 times 128 pages, a count
+            # two blocks of 128 pages that were erased, and a count
+            self.assertEqual((status, said.count(b"\n")), (3, 257) if written else (0, 0))
         self.assertIn(b"LUN 1, block 4095, page 127: 8640 bytes differ, the first at column 0: FFh and 00h", said)
         self.assertIn(b"LUN 1, block 4095, page 127: programmed 1 times and 0", said)
         self.assertIn(b"LUN 0, block 7, page 0: 8640 bytes differ, the first at column 0: FFh and 00h", said)
@@ -337,7 +346,8 @@ class Commands(Tried):
 
     def test_a_page_of_another_length_is_told_as_it_is(self) -> None:
         self.call("new", "t1")
-        for length, told in ((4, "there are 4"), (255, "there are 255"), (769, "there are more than 768"), (5000, "there are more than 768")):
+        for length, told in ((4, "there are 4"), (255, "there are 255"), (769, "there are more than 768"),
+                             (5000, "there are more than 768")):
             (self.folder / "file").write_bytes(bytes(length))
             for words in (["page", "file"], ["new", "x", "file"]):
                 status, said, error = self.call(*words)
@@ -397,8 +407,8 @@ class Commands(Tried):
         self.assertEqual(files(self.folder / "t1"), before)
         # files can't grow past a limit
         for words, named in ((["run", "t1"], "t1/array.new"), (["new", "other"], "other/array")):
-            done = subprocess.run([sys.executable, "-m", "nibtoggle", *words], input=b"\0\xFF", env=environment, cwd=self.folder,
-                                  stdout=subprocess.PIPE, stderr=subprocess.PIPE,
+            done = subprocess.run([sys.executable, "-m", "nibtoggle", *words], input=b"\0\xFF", env=environment,
+                                  cwd=self.folder, stdout=subprocess.PIPE, stderr=subprocess.PIPE,
                                   preexec_fn=lambda: resource.setrlimit(resource.RLIMIT_FSIZE, (20000, 20000)))
             self.assertEqual(done.returncode, 1)
             self.assertEqual(done.stderr.decode(), "nibtoggle: %s: File too large\n" % named)
@@ -409,14 +419,16 @@ class Commands(Tried):
         self.call("new", "t1")
         before = files(self.folder / "t1")
         environment = dict(os.environ, PYTHONPATH=str(ROOT / "python"), PYTHONDONTWRITEBYTECODE="1")
-        for shell, told in (("run t1 <&-", "standard input: Bad file descriptor"), ("text <&-", "standard input: Bad file descriptor"),
-                            ("jobs <&-", "standard input: Bad file descriptor"), ("explain t1 < trace >&-", "standard output: Bad file descriptor"),
+        for shell, told in (("run t1 <&-", "standard input: Bad file descriptor"),
+                            ("text <&-", "standard input: Bad file descriptor"),
+                            ("jobs <&-", "standard input: Bad file descriptor"),
+                            ("explain t1 < trace >&-", "standard output: Bad file descriptor"),
                             ("run t1 < trace > /dev/full", "standard output: No space left on device"),
                             ("explain t1 < trace > /dev/full", "standard output: No space left on device"),
                             ("help > /dev/full", "standard output: No space left on device")):
             (self.folder / "trace").write_bytes(b"\0\xFF")
-            done = subprocess.run(["sh", "-c", '"$0" -m nibtoggle ' + shell, sys.executable], cwd=self.folder, env=environment,
-                                  stdout=subprocess.PIPE, stderr=subprocess.PIPE, text=True)
+            done = subprocess.run(["sh", "-c", '"$0" -m nibtoggle ' + shell, sys.executable], cwd=self.folder,
+                                  env=environment, stdout=subprocess.PIPE, stderr=subprocess.PIPE, text=True)
             self.assertEqual((done.returncode, done.stdout, done.stderr), (1, "", "nibtoggle: %s\n" % told), shell)
             self.assertEqual(files(self.folder / "t1"), before)
 

@@ -30,8 +30,8 @@ class Versions(unittest.TestCase):
         self.assertEqual((said.returncode, said.stdout), (0, ""))
 
     def test_a_new_one_is_set_everywhere(self) -> None:
-        places = ("VERSION", "tools/version", "include/nibtoggle.h", "docs/CHANGELOG.md", "python/nibtoggle/__init__.py",
-                  "crates/nib_speech/src/lib.rt", "crates/nib_speech/specs/Speech.antt")
+        places = ("VERSION", "tools/version", "include/nibtoggle.h", "docs/CHANGELOG.md",
+                  "python/nibtoggle/__init__.py", "crates/nib_speech/src/lib.rt", "crates/nib_speech/specs/Speech.antt")
         with tempfile.TemporaryDirectory() as folder:
             for name in places:
                 (Path(folder) / name).parent.mkdir(parents=True, exist_ok=True)
@@ -74,18 +74,22 @@ class Prefix(unittest.TestCase):
         self.library_by_pkg_config()
         self.package_and_commands()
         # a second time over the first; and beside, for whoever makes a package of it
-        self.assertEqual(done([str(ROOT / "tools" / "install"), str(self.prefix)], env={"PYTHON": sys.executable}).returncode, 0)
+        self.assertEqual(done([str(ROOT / "tools" / "install"), str(self.prefix)],
+                              env={"PYTHON": sys.executable}).returncode, 0)
         stage = self.prefix.parent / "stage"
-        said = done([str(ROOT / "tools" / "install"), "/nowhere/nib"], env={"PYTHON": sys.executable, "DESTDIR": str(stage)})
+        said = done([str(ROOT / "tools" / "install"), "/nowhere/nib"],
+                    env={"PYTHON": sys.executable, "DESTDIR": str(stage)})
         self.assertEqual(said.returncode, 0, said.stdout)
         self.assertFalse(Path("/nowhere").exists())
 
         def listed(folder: Path) -> List[str]:
             mine = ("program", "own.so", "linked")          # made by this test
-            return sorted(str(path.relative_to(folder)) for path in folder.rglob("*") if path.name not in mine and "__pycache__" not in path.parts)
+            return sorted(str(path.relative_to(folder)) for path in folder.rglob("*")
+                          if path.name not in mine and "__pycache__" not in path.parts)
 
         self.assertEqual(listed(stage / "nowhere" / "nib"), listed(self.prefix))
-        self.assertIn("prefix=/nowhere/nib\n", (stage / "nowhere" / "nib" / "lib" / "pkgconfig" / "nibtoggle.pc").read_text(encoding="utf-8"))
+        paper = stage / "nowhere" / "nib" / "lib" / "pkgconfig" / "nibtoggle.pc"
+        self.assertIn("prefix=/nowhere/nib\n", paper.read_text(encoding="utf-8"))
 
     def library_by_pkg_config(self) -> None:
         lib = self.prefix / "lib"
@@ -216,7 +220,8 @@ int main(void) {
 """
         with tempfile.TemporaryDirectory() as folder:
             (Path(folder) / "row.c").write_text(program, encoding="utf-8")
-            built = done(["cc", "-std=c11", "-Wall", "-Wextra", "-Werror", "-I%s" % (ROOT / "include"), "row.c", "-o", "row"], cwd=folder)
+            built = done(["cc", "-std=c11", "-Wall", "-Wextra", "-Werror", "-I%s" % (ROOT / "include"), "row.c", "-o",
+                          "row"], cwd=folder)
             self.assertEqual(built.returncode, 0, built.stdout)
             lines = done([str(Path(folder) / "row")]).stdout.splitlines()
         self.assertEqual(len(lines), 72)

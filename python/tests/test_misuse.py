@@ -81,8 +81,8 @@ class Numbers(unittest.TestCase):
         b = self.bench
         # bytes(5) are five of 00h, which nobody means who writes 5 for data
         for call in (lambda: b.program(0, 0, 0, 5), lambda: b.write(5), lambda: b.program(0, 0, 0, "x"),      # type: ignore[arg-type]
-                     lambda: b.set_feature(4), lambda: b.copyback_program(0, 0, 0, 5),                        # type: ignore[arg-type]
-                     lambda: records(Job("program", 0, data=5))):                                             # type: ignore[arg-type]
+                     lambda: b.set_feature(4), lambda: b.copyback_program(0, 0, 0, 5),      # type: ignore[arg-type]
+                     lambda: records(Job("program", 0, data=5))):                           # type: ignore[arg-type]
             self.sends_nothing(call, TypeError)
         for call in (lambda: b.protect(2), lambda: b.protect(-1), lambda: b.program_clear(64)):
             self.sends_nothing(call)
@@ -91,11 +91,11 @@ class Numbers(unittest.TestCase):
         self.assertTrue(b.protect(True).ok and b.protect(0).ok)
 
     #: What each number of a call may be on T1, by its name there, and values outside.
-    GOOD = {"lun": 0, "block": 0, "page": 0, "column": 0, "data": b"x", "kind": 0, "value": 0xFF, "count": 1, "copies": 1, "address": 1,
-            "values": bytes(4), "polls": 1, "low": 1, "on": 1}
-    WRONG = {"lun": (-1, 2, 255, 256), "block": (-1, 8, 1 << 32), "page": (-1, 4, 256), "column": (-1, 528, 65536), "kind": (-1, 256, 0x100),
-             "value": (-1, 256, 0x1FF), "count": (-1,), "copies": (-1, 4), "address": (-1, 256), "polls": (0, -1), "row": (-1, 1 << 24),
-             "low": (-1, 2), "on": (-1, 2)}
+    GOOD = {"lun": 0, "block": 0, "page": 0, "column": 0, "data": b"x", "kind": 0, "value": 0xFF, "count": 1,
+            "copies": 1, "address": 1, "values": bytes(4), "polls": 1, "low": 1, "on": 1}
+    WRONG = {"lun": (-1, 2, 255, 256), "block": (-1, 8, 1 << 32), "page": (-1, 4, 256), "column": (-1, 528, 65536),
+             "kind": (-1, 256, 0x1FF), "value": (-1, 256, 0x1FF), "count": (-1,), "copies": (-1, 4),
+             "address": (-1, 256), "polls": (0, -1), "row": (-1, 1 << 24), "low": (-1, 2), "on": (-1, 2)}
 
     def test_every_number_of_every_job(self) -> None:
         tried = set()
@@ -114,9 +114,11 @@ class Numbers(unittest.TestCase):
                             self.sends_nothing(lambda: call(**words))
                             tried.add((name, number))
         self.assertGreaterEqual({name for name, _ in tried}, {
-            "program", "load", "read_page", "read_out", "erase", "status", "poll", "resume", "copyback_read", "copyback_program", "finish",
-            "command", "event", "read", "get_feature", "parameters", "page_of", "register", "working", "copyback_open", "blank", "protect",
-            "program_clear", "row", "lun_of", "page_number", "page_start"})
+            "program", "load", "read_page", "read_out", "erase", "status", "poll", "resume", "copyback_read",
+            "copyback_program", "finish", "command", "event", "read", "get_feature", "parameters", "page_of",
+            "register",
+            "working", "copyback_open", "blank", "protect", "program_clear", "row", "lun_of", "page_number",
+            "page_start"})
 
     def test_the_message_names_the_number_and_its_range(self) -> None:
         with self.assertRaisesRegex(ValueError, "page is 0 to 3, and 4 was given"):
@@ -181,8 +183,9 @@ class Told(unittest.TestCase):
         self.assertEqual((str(again), again.detail), (str(caught.exception), caught.exception.detail))
 
     def test_every_exception_passes(self) -> None:
-        calls = (lambda: Bench.t1().command(0x90), lambda: nibtoggle.records_of("c zz"), lambda: nibtoggle.check_page(b"ONFI"),
-                 lambda: nibtoggle.check_page(bytes(768)), lambda: Bench.open(ROOT / "docs"), lambda: working.poll(polls=2))
+        calls = (lambda: Bench.t1().command(0x90), lambda: nibtoggle.records_of("c zz"),
+                 lambda: nibtoggle.check_page(b"ONFI"), lambda: nibtoggle.check_page(bytes(768)),
+                 lambda: Bench.open(ROOT / "docs"), lambda: working.poll(polls=2))
         working = Bench.t1()
         working.reset()
         working.load(0, 0, 0)
@@ -199,11 +202,14 @@ class Told(unittest.TestCase):
                 self.skipTest("no %s here; tools/test-host takes Debian's" % module)
         with tempfile.TemporaryDirectory() as folder:
             test = Path(folder) / "test_loader.py"
-            test.write_text("from nibtoggle import Bench\n\n\ndef test_save():\n    Bench.t1().program(0, 0, 0, b'x')\n\n\n"
+            test.write_text("from nibtoggle import Bench\n\n\n"
+                            "def test_save():\n    Bench.t1().program(0, 0, 0, b'x')\n\n\n"
                             "def test_saved():\n    bench = Bench.t1(strict=False)\n    replies = bench.erase(0, 0)\n"
-                            "    assert replies.ok\n\n\ndef test_good():\n    assert Bench.t1().reset().ok\n", encoding="utf-8")
+                            "    assert replies.ok\n\n\ndef test_good():\n    assert Bench.t1().reset().ok\n",
+                            encoding="utf-8")
             environment = dict(os.environ, PYTHONPATH=str(ROOT / "python"), PYTHONDONTWRITEBYTECODE="1")
-            said = subprocess.run([sys.executable, "-m", "pytest", "-q", "-n", "2", "-p", "no:cacheprovider", str(test)], env=environment,
+            said = subprocess.run([sys.executable, "-m", "pytest", "-q", "-n", "2", "-p", "no:cacheprovider",
+                                   str(test)], env=environment,
                                   cwd=folder, stdout=subprocess.PIPE, stderr=subprocess.STDOUT, text=True).stdout
         self.assertIn("2 failed, 1 passed", said)
         self.assertIn("command 80h refused with 2: " + nibtoggle.RULES[2], said)

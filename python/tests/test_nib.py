@@ -197,11 +197,13 @@ class Failures(Nib):
                     self.assertEqual(held(self.part), before, (kind, nth))
 
     def test_a_disk_that_is_full_is_real(self) -> None:
-        """No call is made to fail: files can't grow past a limit, so a write takes a part of the bytes, and the next one none."""
+        """No call is made to fail: files can't grow past a limit, so that a write takes a part of the bytes, and the
+        next one none."""
         before = held(self.part)
         for limit in (0, 1, 20000, 33791):
             for words in (["run", "t1"], ["new", "other"]):
-                done = subprocess.run([str(self.program), *words], input=self.more, cwd=self.folder, stdout=subprocess.PIPE,
+                done = subprocess.run([str(self.program), *words], input=self.more, cwd=self.folder,
+                                      stdout=subprocess.PIPE,
                                       stderr=subprocess.PIPE, text=False, preexec_fn=lambda: no_file_longer_than(limit))
                 self.assertIn(b": File too large\n", done.stderr)
                 self.assertEqual(held(self.part), before)
@@ -216,7 +218,8 @@ class Failures(Nib):
         self.part.chmod(0o555)
         self.folder.chmod(0o555)
         for words, told in ((["run", "t1"], "t1/array.new"), (["new", "other"], "other")):
-            done = subprocess.run([*alone, str(self.program), *words], input=self.more, cwd=self.folder, stdout=subprocess.PIPE,
+            done = subprocess.run([*alone, str(self.program), *words], input=self.more, cwd=self.folder,
+                                  stdout=subprocess.PIPE,
                                   stderr=subprocess.PIPE)
             self.assertEqual(done.stderr.decode(), "nib: %s: Permission denied\n" % told)
             self.assertEqual(held(self.part), before)
@@ -407,8 +410,10 @@ class Defects(Nib):
         (self.folder / "wide").write_bytes(wide)
         self.good("new", "t1")
         (self.part / "page").write_bytes(wide)
-        told = ": power-on refused 23: %s; pages a block: 300, and 1 to 256 are taken; LUNs: 9, and 1 to 4 are taken\n" % nibtoggle.RULES[23]
-        for words, path in ((["new", "x", "wide"], "wide"), (["run", "t1"], "t1/page"), (["explain", "t1"], "t1/page"), (["text", "t1"], "t1/page"),
+        told = ": power-on refused 23: " + nibtoggle.RULES[23]
+        told += "; pages a block: 300, and 1 to 256 are taken; LUNs: 9, and 1 to 4 are taken\n"
+        for words, path in ((["new", "x", "wide"], "wide"), (["run", "t1"], "t1/page"), (["explain", "t1"], "t1/page"),
+                            (["text", "t1"], "t1/page"),
                             (["jobs", "t1"], "t1/page")):
             self.assertEqual(self.nib(*words), (b"", "nib: " + path + told))
         # and by Python, in the same words
@@ -418,7 +423,8 @@ class Defects(Nib):
     def python(self, *words: str, given: bytes = b"") -> Tuple[int, bytes, str]:
         """The same call of `python3 -m nibtoggle`."""
         environment = dict(os.environ, PYTHONPATH=str(ROOT / "python"), PYTHONDONTWRITEBYTECODE="1")
-        done = subprocess.run([sys.executable, "-m", "nibtoggle", *words], input=given, env=environment, cwd=self.folder,
+        done = subprocess.run([sys.executable, "-m", "nibtoggle", *words], input=given, env=environment,
+                              cwd=self.folder,
                               stdout=subprocess.PIPE, stderr=subprocess.PIPE)
         return done.returncode, done.stdout, done.stderr.decode()
 
@@ -431,7 +437,8 @@ class Defects(Nib):
             self.assertTrue(all(lines), said)
             calls.append({line.group(1): line.group(2) for line in lines if line})
         both = calls[0].keys() & calls[1].keys()
-        self.assertGreaterEqual({call.split()[0] for call in both}, {"new", "parts", "run", "explain", "page", "text", "jobs", "version", "help"})
+        self.assertGreaterEqual({call.split()[0] for call in both},
+                                {"new", "parts", "run", "explain", "page", "text", "jobs", "version", "help"})
         for call in both:
             self.assertEqual(calls[0][call], calls[1][call])
         self.assertEqual([call for call in calls[0] if call in both], [call for call in calls[1] if call in both])
@@ -441,7 +448,8 @@ class Defects(Nib):
     def test_page_is_python_s(self) -> None:
         spoilt = bytearray(parameter_page(luns=1, any_order=True, copyback=True))
         spoilt[101], spoilt[6], spoilt[32], spoilt[44] = 0x22, 0x05, 0x1F, 0x7F
-        pages = [parameter_page(), bytes(spoilt), parameter_page(data=8, spare=4096, pages=0, blocks=5000, luns=4, programs=9), PARTS["W"].page,
+        pages = [parameter_page(), bytes(spoilt), parameter_page(data=8, spare=4096, pages=0, blocks=5000, luns=4,
+                                                                 programs=9), PARTS["W"].page,
                  bytes(256), bytes(256) + 2 * parameter_page(), bytes(range(256))]
         for number, page in enumerate(pages):
             (self.folder / str(number)).write_bytes(page)
@@ -469,10 +477,12 @@ class Defects(Nib):
         self.assertEqual(lines[0], "power-on refused 25: " + nibtoggle.RULES[25])
         self.assertTrue(lines[1].endswith("refused 13: " + nibtoggle.RULES[13]))
         good = parameter_page()
-        for number, page in ((20, good[:255]), (21, b"INFO" + good[4:]), (22, good[:254] + b"\0\0"), (23, parameter_page(luns=5))):
+        for number, page in ((20, good[:255]), (21, b"INFO" + good[4:]), (22, good[:254] + b"\0\0"),
+                             (23, parameter_page(luns=5))):
             (self.folder / "page").write_bytes(page)
-            self.assertTrue(self.nib("new", "x", "page")[1].startswith("nib: page: power-on refused %d: %s" % (number, nibtoggle.RULES[number])))
-        # 16 and 24 are no answers to nib's: its rooms are long enough, and a file of another length is told of by its name
+            told = "nib: page: power-on refused %d: %s" % (number, nibtoggle.RULES[number])
+            self.assertTrue(self.nib("new", "x", "page")[1].startswith(told))
+        # 16 and 24 are no answers to nib: its rooms are long enough, and a file of another length is told of by name
         self.assertEqual(sorted(nibtoggle.RULES), [*range(1, 15), 16, *range(20, 26)])
 
     def test_parts_and_version(self) -> None:
@@ -484,7 +494,8 @@ class Defects(Nib):
         for name in PARTS:
             said, error = self.nib("new", name, name)
             if name.startswith("MT29F"):
-                self.assertEqual((said, error), (b"", "nib: %s: the part is more than nib holds; python3 -m nibtoggle new makes it\n" % name))
+                told = "nib: %s: the part is more than nib holds; python3 -m nibtoggle new makes it\n" % name
+                self.assertEqual((said, error), (b"", told))
                 self.assertFalse((self.folder / name).exists())
             else:
                 self.assertEqual((error, held(self.folder / name)["page"][0]), ("", PARTS[name].page))
@@ -556,7 +567,7 @@ class Jobs(Nib):
         self.assertLess(1048000, len(text))
         trace = self.good("text", "t1", given=text)
         self.assertEqual(len(trace), 14 + 2 * len(data))
-        self.assertTrue(trace[13:-2:2] == data)                 # no comparing line by line where they differ: it takes minutes
+        self.assertTrue(trace[13:-2:2] == data)                 # assertEqual would take minutes to show where they differ
         self.assertEqual(self.good("jobs", "t1", given=trace), b"     1  program LUN 1 block 5 page 3, column 0, 349440 bytes\n")
         self.assertEqual(self.good("text", "t1", given=b"read-out 0 0 65535"), records_of("c 06 a 00 00 00 00 00 c e0 o 65535"))
 

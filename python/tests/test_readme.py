@@ -27,15 +27,18 @@ class Readme(unittest.TestCase):
         with tempfile.TemporaryDirectory() as folder:
             # in a copy of the repository, for pip leaves files there; what is built is shared
             copy = Path(folder) / "copy"
-            shutil.copytree(ROOT, copy, symlinks=True, ignore=shutil.ignore_patterns("target", ".git", "__pycache__", "build", "*.egg-info"))
+            left_out = shutil.ignore_patterns("target", ".git", "__pycache__", "build", "*.egg-info")
+            shutil.copytree(ROOT, copy, symlinks=True, ignore=left_out)
             shutil.copytree(ROOT / "crates" / "target", copy / "crates" / "target", dirs_exist_ok=True)
             (copy / "target").symlink_to(ROOT / "target")
             script = Path(folder) / "readme.sh"
             script.write_text("set -eu\n" + "\n".join(boxes("sh")), encoding="utf-8")
             # python3 is the one that runs this, for Debian's setuptools belong to it
-            environment = dict(os.environ, TMPDIR=folder, PATH="%s:%s" % (Path(sys.executable).parent, os.environ["PATH"]))
+            path = "%s:%s" % (Path(sys.executable).parent, os.environ["PATH"])
+            environment = dict(os.environ, TMPDIR=folder, PATH=path)
             environment.pop("PYTHONPATH", None)
-            done = subprocess.run(["sh", str(script)], cwd=copy, env=environment, stdout=subprocess.PIPE, stderr=subprocess.STDOUT, text=True)
+            done = subprocess.run(["sh", str(script)], cwd=copy, env=environment, stdout=subprocess.PIPE,
+                                  stderr=subprocess.STDOUT, text=True)
             self.assertEqual(done.returncode, 0, done.stdout)
             # what explain and jobs write is what the README prints
             for first in ("power-on accepted", "     1  no job: command FFh  reset"):
@@ -44,7 +47,8 @@ class Readme(unittest.TestCase):
                 self.assertIn("".join(line[4:] + "\n" for line in printed.group(0).splitlines()), done.stdout)
             self.assertIn("LUN 1, block 5, page 3: programmed 1 times", done.stdout)
             # what stands in a box that is not typed is the gate itself, lines that are printed, or files' words
-            self.assertEqual(re.findall(r"^    (?:\$ )?(?:rt|tools/\w|cc|nib|python3|pip|\.ci/run)\b.*", TEXT, re.M), ["    .ci/run"])
+            self.assertEqual(re.findall(r"^    (?:\$ )?(?:rt|tools/\w|cc|nib|python3|pip|\.ci/run)\b.*", TEXT, re.M),
+                             ["    .ci/run"])
 
     def test_its_python(self) -> None:
         session = doctest.DocTestParser().get_doctest("\n".join(boxes("python")), {}, "README.md", "README.md", 0)

@@ -62,13 +62,15 @@ class BuildHost(unittest.TestCase):
 class Examples(unittest.TestCase):
     """An answer of the library's that an example does not look at does not compile, or is found here."""
 
-    FLAGS = ["-std=c11", "-Wall", "-Wextra", "-Werror", "-I%s" % (ROOT / "include"), "-I%s" % (ROOT / "examples" / "loader"), "-c", "-o", os.devnull]
+    FLAGS = ["-std=c11", "-Wall", "-Wextra", "-Werror", "-I%s" % (ROOT / "include"),
+             "-I%s" % (ROOT / "examples" / "loader"), "-c", "-o", os.devnull]
     SOURCES = sorted((ROOT / "examples").rglob("*.c"))
 
     def test_every_answer_is_looked_at(self) -> None:
         self.assertIn("lost_preset.c", [path.name for path in self.SOURCES])
         for path in self.SOURCES:
-            done = subprocess.run(["cc", *self.FLAGS, str(path)], stdout=subprocess.PIPE, stderr=subprocess.STDOUT, text=True)
+            done = subprocess.run(["cc", *self.FLAGS, str(path)], stdout=subprocess.PIPE, stderr=subprocess.STDOUT,
+                                  text=True)
             self.assertEqual((done.returncode, done.stdout), (0, ""))
             # a call that is a statement of its own throws its answer away
             text = re.sub(r"/\*.*?\*/", " ", path.read_text(encoding="utf-8"), flags=re.S)
@@ -83,14 +85,16 @@ class Examples(unittest.TestCase):
             with tempfile.TemporaryDirectory() as folder:
                 ignores = Path(folder) / "ignores.c"
                 ignores.write_text(text.replace(looks, "uint32_t answer = 0; " + call), encoding="utf-8")
-                done = subprocess.run(["cc", *self.FLAGS, str(ignores)], stdout=subprocess.PIPE, stderr=subprocess.STDOUT, text=True)
+                done = subprocess.run(["cc", *self.FLAGS, str(ignores)], stdout=subprocess.PIPE,
+                                      stderr=subprocess.STDOUT, text=True)
             self.assertNotEqual(done.returncode, 0)
             self.assertIn("unused-result", done.stdout)
 
 
 class Scripts(unittest.TestCase):
     def test_each_knows_its_help(self) -> None:
-        for name, words in (("install", []), ("install", ["-x"]), ("version", ["nonsense"]), ("test-faults", ["-x"]), ("test-faults", ["--nonsense"])):
+        for name, words in (("install", []), ("install", ["-x"]), ("version", ["nonsense"]), ("test-faults", ["-x"]),
+                            ("test-faults", ["--nonsense"])):
             done = subprocess.run([str(ROOT / "tools" / name)] + words, stdout=subprocess.PIPE, stderr=subprocess.PIPE, text=True)
             self.assertEqual((done.returncode, done.stdout), (2, ""))
             self.assertIn("tools/" + name, done.stderr)
