@@ -105,17 +105,13 @@ class Folders(Tried):
                 bench.save()
             bench.close()
             self.assertEqual(files(path), before)
-        calls = []
-
-        def fsync_new(fd: int) -> None:
-            calls.append(fd)
-            if len(calls) == 3:
-                raise OSError(28, "No space left on device")
-            real(fd)
-
-        with mock.patch("os.fsync", fsync_new), self.assertRaises(OSError):
-            Bench.new(self.folder / "other")
-        self.assertFalse((self.folder / "other").exists())
+        for broken in range(5):
+            calls = []
+            with mock.patch("os.fsync", fsync), self.assertRaises(OSError) as caught:
+                Bench.new(self.folder / "other")
+            name = ("page", "id", "array", "counts", "flags")[broken]
+            self.assertEqual(caught.exception.filename, str(self.folder / "other" / name))
+            self.assertFalse((self.folder / "other").exists())
 
     def test_what_is_wrong_is_named(self) -> None:
         path = self.folder / "t1"

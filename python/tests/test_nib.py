@@ -3,6 +3,7 @@ from __future__ import annotations
 
 import errno
 import os
+import platform
 import random
 import re
 import resource
@@ -203,8 +204,8 @@ class Failures(Nib):
         for limit in (0, 1, 20000, 33791):
             for words in (["run", "t1"], ["new", "other"]):
                 done = subprocess.run([str(self.program), *words], input=self.more, cwd=self.folder,
-                                      stdout=subprocess.PIPE,
-                                      stderr=subprocess.PIPE, text=False, preexec_fn=lambda: no_file_longer_than(limit))
+                                      stdout=subprocess.PIPE, stderr=subprocess.PIPE,
+                                      preexec_fn=lambda: no_file_longer_than(limit))
                 self.assertIn(b": File too large\n", done.stderr)
                 self.assertEqual(held(self.part), before)
                 self.assertFalse((self.folder / "other").exists())
@@ -219,8 +220,7 @@ class Failures(Nib):
         self.folder.chmod(0o555)
         for words, told in ((["run", "t1"], "t1/array.new"), (["new", "other"], "other")):
             done = subprocess.run([*alone, str(self.program), *words], input=self.more, cwd=self.folder,
-                                  stdout=subprocess.PIPE,
-                                  stderr=subprocess.PIPE)
+                                  stdout=subprocess.PIPE, stderr=subprocess.PIPE)
             self.assertEqual(done.stderr.decode(), "nib: %s: Permission denied\n" % told)
             self.assertEqual(held(self.part), before)
             self.assertFalse((self.folder / "other").exists())
@@ -293,9 +293,11 @@ class Failures(Nib):
 
     def test_a_record_that_is_cut_off(self) -> None:
         before = held(self.part)
-        _, error = self.nib("run", "t1", given=self.more, fail="read:1:%d" % errno.EIO)
-        self.assertIn("standard input: Input/output error", error)
-        self.assertEqual(held(self.part), before)
+        for command in ("run", "explain"):
+            for nth in (1, 2):                  # before the first byte, and where the input's end would be
+                _, error = self.nib(command, "t1", given=self.more, fail="read:%d:%d" % (nth, errno.EIO))
+                self.assertEqual(error, "nib: standard input: Input/output error\n")
+                self.assertEqual(held(self.part), before)
 
 
 class Errors(Nib):
@@ -413,8 +415,7 @@ class Defects(Nib):
         told = ": power-on refused 23: " + nibtoggle.RULES[23]
         told += "; pages a block: 300, and 1 to 256 are taken; LUNs: 9, and 1 to 4 are taken\n"
         for words, path in ((["new", "x", "wide"], "wide"), (["run", "t1"], "t1/page"), (["explain", "t1"], "t1/page"),
-                            (["text", "t1"], "t1/page"),
-                            (["jobs", "t1"], "t1/page")):
+                            (["text", "t1"], "t1/page"), (["jobs", "t1"], "t1/page")):
             self.assertEqual(self.nib(*words), (b"", "nib: " + path + told))
         # and by Python, in the same words
         for words, path in ((["new", "x", "wide"], "wide"), (["run", "t1"], "t1/page"), (["explain", "t1"], "t1/page")):
@@ -424,8 +425,7 @@ class Defects(Nib):
         """The same call of `python3 -m nibtoggle`."""
         environment = dict(os.environ, PYTHONPATH=str(ROOT / "python"), PYTHONDONTWRITEBYTECODE="1")
         done = subprocess.run([sys.executable, "-m", "nibtoggle", *words], input=given, env=environment,
-                              cwd=self.folder,
-                              stdout=subprocess.PIPE, stderr=subprocess.PIPE)
+                              cwd=self.folder, stdout=subprocess.PIPE, stderr=subprocess.PIPE)
         return done.returncode, done.stdout, done.stderr.decode()
 
     def test_help_has_one_style(self) -> None:
@@ -448,9 +448,9 @@ class Defects(Nib):
     def test_page_is_python_s(self) -> None:
         spoilt = bytearray(parameter_page(luns=1, any_order=True, copyback=True))
         spoilt[101], spoilt[6], spoilt[32], spoilt[44] = 0x22, 0x05, 0x1F, 0x7F
-        pages = [parameter_page(), bytes(spoilt), parameter_page(data=8, spare=4096, pages=0, blocks=5000, luns=4,
-                                                                 programs=9), PARTS["W"].page,
-                 bytes(256), bytes(256) + 2 * parameter_page(), bytes(range(256))]
+        pages = [parameter_page(), bytes(spoilt), PARTS["W"].page, bytes(256), bytes(range(256)),
+                 parameter_page(data=8, spare=4096, pages=0, blocks=5000, luns=4, programs=9),
+                 bytes(256) + 2 * parameter_page()]
         for number, page in enumerate(pages):
             (self.folder / str(number)).write_bytes(page)
             self.assertEqual((0, self.good("page", str(number)), ""), self.python("page", str(number)))
@@ -567,7 +567,7 @@ class Jobs(Nib):
         self.assertLess(1048000, len(text))
         trace = self.good("text", "t1", given=text)
         self.assertEqual(len(trace), 14 + 2 * len(data))
-        self.assertTrue(trace[13:-2:2] == data)                 # assertEqual would take minutes to show where they differ
+        self.assertTrue(trace[13:-2:2] == data)             # assertEqual would take minutes to show where they differ
         self.assertEqual(self.good("jobs", "t1", given=trace), b"     1  program LUN 1 block 5 page 3, column 0, 349440 bytes\n")
         self.assertEqual(self.good("text", "t1", given=b"read-out 0 0 65535"), records_of("c 06 a 00 00 00 00 00 c e0 o 65535"))
 
@@ -593,6 +593,19 @@ class Wrapped(Nib):
             self.assertEqual(self.wrapped(nib, "version"), (0, "nib %s\n" % nibtoggle.__version__, ""))
             self.assertEqual(self.wrapped(nib, "page", "none")[0], 1)
             self.assertEqual(self.wrapped(nib, "nonsense")[0], 2)
+
+    def test_a_machine_without_the_kit(self) -> None:
+        # nib runs as it is on x86-64; elsewhere the kit's emulator is missing, which is said
+        bare = "/usr/bin:/bin"
+        if shutil.which("rt", path=bare):
+            self.skipTest("rt stands in " + bare)
+        done = subprocess.run([str(ROOT / "tools" / "nib"), "version"], env={"PATH": bare}, stdout=subprocess.PIPE,
+                              stderr=subprocess.PIPE, text=True)
+        if platform.machine() == "x86_64":
+            self.assertEqual((done.returncode, done.stderr), (0, ""))
+        else:
+            self.assertEqual((done.returncode, done.stdout), (1, ""))
+            self.assertIn("rt, the command of the Rattle kit, whose emulator would run it, is not on the PATH", done.stderr)
 
     def test_a_nib_that_is_not_built(self) -> None:
         (self.folder / "tools").mkdir()
