@@ -286,6 +286,27 @@ class Commands(Tried):
         self.assertEqual(self.call("diff", "other", "other")[:2], (0, b""))
         self.assertEqual(self.call("text", "-d", given=trace)[0], 0)
 
+    def test_what_only_reads_changes_nothing(self) -> None:
+        trace = nibtoggle.records_of("c ff c 80 a 00 00 37 00 00 d 3c a5 c 10 f 1")
+        self.call("new", "t1")
+        self.call("run", "t1", given=trace)
+        (self.folder / "page").write_bytes(parameter_page())
+        self.call("new", "other", "page")
+        self.assertEqual(files(self.folder / "other")["id"], b"\0")            # a page does not say the device ID
+
+        def held() -> Dict[str, Tuple[bytes, int]]:
+            return {str(path): (path.read_bytes(), path.stat().st_mtime_ns) for path in self.folder.rglob("*")
+                    if path.is_file()}
+
+        before = held()
+        for status, calls in ((0, ("explain t1", "page t1", "page page", "jobs t1", "jobs", "text -d", "dump t1 1 5 3",
+                                   "diff t1 t1", "parts", "version", "help", "run --help", "new --help")),
+                              (1, ("text t1", "text", "run none", "new t1", "new x t1/array")),
+                              (2, ("run", "nonsense", "new -x")), (3, ("diff t1 other",))):
+            for call in calls:
+                self.assertEqual((call, self.call(*call.split(), given=trace)[0]), (call, status))
+                self.assertEqual(held(), before, call)
+
     def test_page_of_a_folder_has_its_blank_blocks(self) -> None:
         Bench.new(self.folder / "t1", "T1", bad=[(0, 3)]).close()
         with Bench.open(self.folder / "t1") as bench:
