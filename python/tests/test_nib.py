@@ -213,6 +213,8 @@ class Failures(Nib):
     def test_a_folder_that_can_not_be_written_is_real(self) -> None:
         # root may write anywhere, unless that is taken from it
         alone = ["setpriv", "--bounding-set=-dac_override,-dac_read_search"] if os.geteuid() == 0 else []
+        if alone and subprocess.run([*alone, "true"], stderr=subprocess.DEVNULL).returncode:
+            self.skipTest("root can't give up its rights here")
         self.addCleanup(self.folder.chmod, 0o755)
         self.addCleanup(self.part.chmod, 0o755)
         before = held(self.part)
