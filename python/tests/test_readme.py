@@ -10,6 +10,7 @@ import sys
 import tempfile
 import unittest
 from pathlib import Path
+from unittest import mock
 
 ROOT = Path(__file__).resolve().parent.parent.parent
 sys.path.insert(0, str(ROOT / "python"))
@@ -55,7 +56,8 @@ class Readme(unittest.TestCase):
         self.assertGreater(len(session.examples), 8)
         said: "list[str]" = []
         flags = doctest.ELLIPSIS
-        failed = doctest.DocTestRunner(verbose=False, optionflags=flags).run(session, out=said.append).failed
+        with tempfile.TemporaryDirectory() as folder, mock.patch.object(tempfile, "tempdir", folder):
+            failed = doctest.DocTestRunner(verbose=False, optionflags=flags).run(session, out=said.append).failed
         self.assertEqual((failed, "".join(said)), (0, ""))
 
     def test_the_demo_s_lines_are_the_demo_s(self) -> None:
