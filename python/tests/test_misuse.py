@@ -350,6 +350,21 @@ class NewFiles(unittest.TestCase):
             self.assertEqual(bytes(bench.array[:4096]) + bytes(bench.array[-4096:]), first * 8192)
             bench.close()
 
+    def test_a_bad_block_that_does_not_exist_makes_no_file(self) -> None:
+        folder, spareless = self.path.with_name("t1"), parameter_page(spare=0)
+        for bad in ([(0, 8)], [(2, 0)], [(0, -1)]):
+            for call in (lambda: Bench.t1(array=self.path, bad=bad), lambda: Bench.new(folder, bad=bad)):
+                self.assertRaisesRegex(ValueError, "and -?[0-9] was given", call)
+        for call in (lambda: Bench(spareless, 0x68, array=self.path, marks=True),
+                     lambda: Bench.new(folder, spareless, marks=True)):
+            self.assertRaisesRegex(ValueError, "no place for a block's mark", call)
+        self.assertEqual(list(self.path.parent.iterdir()), [])
+        # a page that is refused says so itself, whatever else is given; so does a wrong number of flags
+        with self.assertRaisesRegex(Refused, "pages a block: 300"):
+            Bench(parameter_page(pages=300), 0x68, bad=[(0, 1)], marks=True)
+        with self.assertRaisesRegex(Refused, "flags: 17 bytes, and 16 are due"):
+            Bench.t1(flags=bytes(17), marks=True)
+
     def test_a_refused_page_makes_no_file(self) -> None:
         page = bytearray(parameter_page())
         page[255] ^= 1
