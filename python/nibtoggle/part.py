@@ -116,8 +116,8 @@ class Part:
         if self.spare == 0:
             raise ValueError("the part has no spare bytes, and so no place for a block's mark")
         size = self.pages * self.page_size
-        return [(number * size + self.page_size - self.spare, 0x00 if flag else 0xFF) for number,
-                flag in enumerate(flags)]
+        return [(number * size + self.page_size - self.spare, 0x00 if flag else 0xFF)
+                for number, flag in enumerate(flags)]
 
     def _look(self, lun: int, block: int, page: int) -> None:
         checks.lun(self, lun)
