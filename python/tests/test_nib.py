@@ -55,9 +55,11 @@ class Nib(unittest.TestCase):
         cls.tools = tempfile.TemporaryDirectory()
         cls.shim = str(Path(cls.tools.name) / "fail.so")
         subprocess.run([str(ROOT / "tests" / "c" / "build-fail"), cls.shim], check=True)
-        # nib as one word, for shells too: on Arm the kit's emulator runs it
+        # nib as one word, for shells too: on Arm the kit's emulator runs it, and rt is asked once where that is
+        guide = subprocess.run(["rt", "doc"], check=True, stdout=subprocess.PIPE, text=True).stdout.strip()
+        kit = os.environ.get("RATTLE_HOME") or Path(guide).parent.parent
         cls.program = Path(cls.tools.name) / "nib"
-        cls.program.write_text('#!/bin/sh\nexec "%s" "%s" "$@"\n' % (RUN, NIB), encoding="utf-8")
+        cls.program.write_text('#!/bin/sh\nRATTLE_HOME="%s" exec "%s" "%s" "$@"\n' % (kit, RUN, NIB), encoding="utf-8")
         cls.program.chmod(0o755)
 
     @classmethod
