@@ -25,19 +25,26 @@ static nib_target target;
 
 /* ---- The bench: one bus cycle, and a LUN that works finishes after three statuses ---- */
 
-static uint8_t cycle(uint8_t kind, uint8_t value)
+/* One event, and its reply. A refusal is told, and ends the program. */
+static uint32_t accepted(uint8_t kind, uint8_t value)
 {
-    static unsigned statuses;
     uint32_t reply = nib_lent_event(&target, &lent, kind, value);
     unsigned refusal = nib_refusal(reply);
     if (refusal != 0) {
         printf("event %u %02X refused with %u: %s\n", kind, value, refusal, nib_words(refusal));
         exit(1);
     }
+    return reply;
+}
+
+static uint8_t cycle(uint8_t kind, uint8_t value)
+{
+    static unsigned statuses;
+    uint32_t reply = accepted(kind, value);
     size_t lun = target.output_lun;
     int busy = kind == NIB_DATA_OUT && target.output == NIB_OUTPUT_STATUS && target.working[lun];
     if (busy && ++statuses % 3 == 0)
-        nib_lent_event(&target, &lent, NIB_FINISH, (uint8_t)lun);
+        accepted(NIB_FINISH, (uint8_t)lun);
     return (uint8_t)reply;
 }
 

@@ -95,13 +95,14 @@ class Bench:
         # a page that power-on refuses whatever the buffers are asks for none, and no file is made for it
         refused = self._page_refused()
         part = self.part = Part(0, 0, 0, 0, 0) if refused else Part.of(page)
+        # nor is one made where a bad block does not exist, or there is no place for its mark
+        self._flags = _Lent(_flags(part, flags, () if refused else bad))
+        marked = part.marks(self.flags) if marks and len(self.flags) == part.flags_length > 0 else ()
         self._array = _Lent(bytearray() if refused else self._store(array, part.array_length))
         self._registers = _Lent(bytearray(part.registers_length))
         self._counts = _Lent(counts if counts is not None else bytearray(part.counts_length))
-        self._flags = _Lent(_flags(part, flags, bad))
-        if marks and self._fresh:
-            for place, mark in part.marks(self.flags):
-                self.array[place] = mark
+        for place, mark in marked if self._fresh else ():
+            self.array[place] = mark
         self.power_on()
 
     @classmethod
@@ -379,7 +380,8 @@ class Bench:
         the LUN's finish, unless it is left working. A failed program is accepted: ask `status`. It fails where `program`
         does, out of page order too."""
         row = checks.row(self.part, lun, block, page, row)
-        return self._job(_command(0x85) + self._records_of("program", row, column, data=bytes(data))[2:], row, finish)
+        program = self._records_of("program", row, column, data=checks.data(data))
+        return self._job(_command(0x85) + program[2:], row, finish)
 
     def read_page(self, lun: Optional[int] = None, block: Optional[int] = None, page: Optional[int] = None, column: int = 0,
                   count: Optional[int] = None, *, row: Optional[int] = None) -> bytes:

@@ -4,17 +4,18 @@
 """
 from __future__ import annotations
 
+import errno
 import os
 import sys
 import warnings
 from pathlib import Path
-from typing import BinaryIO, Callable, Dict, Iterator, NoReturn, Optional, Sequence, TextIO, Tuple, Union
+from typing import BinaryIO, Callable, Dict, Iterator, NoReturn, Optional, Sequence, Set, TextIO, Tuple, Union
 
 from . import folder, jobs, parts, scripts, text
 from ._library import Library
 from .bench import Bench, make_folder, page_named, page_refusal
 from .explaining import Explanation
-from .part import FIELDS, PAGE_LENGTH, Part, crc, fields_outside
+from .part import FEATURE_MORE_LUNS, FIELDS, PAGE_LENGTH, Part, crc
 from .replies import Refused
 
 NAME = "nibtoggle"
@@ -48,9 +49,13 @@ class Failed(Exception):
 
 
 def _page_in(path: Path) -> bytes:
-    """The page that a file holds: 256 bytes, or the first good one of an ECh answer's three."""
+    """The page that a file holds: 256 bytes, or the first good one of an ECh answer's three. Other lengths are none."""
     with open(path, "rb") as file:
-        return parts.page_of(file.read(3 * PAGE_LENGTH + 1))
+        held = file.read(3 * PAGE_LENGTH + 1)
+    if len(held) in (PAGE_LENGTH, 3 * PAGE_LENGTH):
+        return parts.page_of(held)
+    told = "there are %s" % (len(held) if len(held) <= 3 * PAGE_LENGTH else "more than 768")
+    raise _refused(path, Refused(20, detail=told))
 
 
 def _refused(path: Union[str, Path], refused: Refused) -> Failed:
@@ -96,13 +101,13 @@ def _blank_words(path: str) -> str:
     return said
 
 
-def page(words: Sequence[str], out: TextIO) -> int:
-    in_folder = words[0] not in parts.PARTS and Path(words[0]).is_dir()
-    path = Path(words[0]) / "page" if in_folder else Path(words[0])
-    bytes_ = parts.PARTS[words[0]].page if words[0] in parts.PARTS else _page_in(path)
-    refused = page_refusal(bytes_)
-    if refused is not None and refused.number == 20:
-        raise Failed("%s: has %d bytes, and a page has 256, or three copies 768" % (path, path.stat().st_size))
+def _bits(word: int, *named: Tuple[int, str]) -> str:
+    """A word of the page in hex, and what its bits that are 1 stand for."""
+    return "  ".join(["%04Xh" % word] + [words for bit, words in named if word >> bit & 1])
+
+
+def _page_lines(bytes_: bytes) -> Iterator[Tuple[str, str]]:
+    """A page field by field, and what power-on would answer: the lines that nib writes."""
 
     def letters(first: int, last: int) -> str:
         return "".join(chr(b) if 32 <= b < 127 else "." for b in bytes_[first:last])
@@ -110,31 +115,61 @@ def page(words: Sequence[str], out: TextIO) -> int:
     def number(at: int, size: int) -> int:
         return int.from_bytes(bytes_[at:at + size], "little")
 
-    lines = [("signature", letters(0, 4)), ("features", "%04Xh" % number(6, 2)), ("optional commands", "%04Xh" % number(8, 2)),
-             ("maker", letters(32, 44)), ("model", letters(44, 64)), ("maker ID", "%02Xh" % bytes_[64])]
-    lines += [(name, "%d" % number(at, size)) for name, at, size, _, _ in FIELDS]
-    lines += [("address cycles", "column %d, row %d" % (bytes_[101] >> 4, bytes_[101] & 15)),
-              ("CRC", "%04Xh  of its bytes %04Xh" % (number(254, 2), crc(bytes_[:254])))]
-    lines += [("outside", said) for said in fields_outside(bytes_)]
-    library = Library.any()
-    if refused is None:
-        part = Part.of(bytes_)
-        said = "accepted, with an array of %d bytes, registers of %d, counts of %d, flags of %d" % (
-            part.array_length, part.registers_length, part.counts_length, part.flags_length)
-    else:
-        said = library.words(library.say_reply, 2, refused.number, 0)
-    for name, value in lines + [("power-on", said)]:
-        out.write("%-18s %s\n" % (name, value))
-    if in_folder and refused is None:
+    features = number(6, 2)
+    yield "length", "%d" % len(bytes_)
+    yield "signature", letters(0, 4)
+    yield "features", _bits(features, (0, "16-bit bus (not taken)"), (1, "more than one LUN"),
+                            (2, "pages in any order"), (8, "program-clear"))
+    yield "optional commands", _bits(number(8, 2), (2, "EEh and EFh"), (3, "78h"), (6, "06h"))
+    yield "maker", letters(32, 44)
+    yield "model", letters(44, 64)
+    yield "maker ID", "%02Xh" % bytes_[64]
+    for name, at, size, least, most in FIELDS:
+        most = 1 if name == "LUNs" and not features & FEATURE_MORE_LUNS else most
+        outside = "" if least <= number(at, size) <= most else "  outside its limits, %d to %d" % (least, most)
+        if name == "programs a page":
+            taken = "" if bytes_[101] == 0x23 else "  only column 2, row 3 is taken"
+            yield "address cycles", "column %d, row %d%s" % (bytes_[101] >> 4, bytes_[101] & 15, taken)
+        yield name, "%d%s" % (number(at, size), outside)
+    yield "CRC", "%04Xh  of its bytes %04Xh" % (number(254, 2), crc(bytes_[:254]))
+    yield "power-on", _power_words(bytes_)
+
+
+def _power_words(page_: bytes) -> str:
+    refused, library = page_refusal(page_), Library.any()
+    if refused is not None:
+        return library.words(library.say_reply, 2, refused.number, 0)
+    part = Part.of(page_)
+    return "accepted, with an array of %d bytes, registers of %d, counts of %d, flags of %d" % (
+        part.array_length, part.registers_length, part.counts_length, part.flags_length)
+
+
+def page(words: Sequence[str], out: TextIO) -> int:
+    in_folder = words[0] not in parts.PARTS and Path(words[0]).is_dir()
+    path = Path(words[0]) / "page" if in_folder else Path(words[0])
+    bytes_ = parts.PARTS[words[0]].page if words[0] in parts.PARTS else _page_in(path)
+    for line in _page_lines(bytes_):
+        out.write("%-18s %s\n" % line)
+    if in_folder and page_refusal(bytes_) is None:
         out.write("%-18s %s\n" % ("blank blocks", _blank_words(words[0])))
     return OK
+
+
+def _read(size: int = -1) -> bytes:
+    """Standard input, so many bytes of it or all."""
+    try:
+        if sys.stdin is None:               # it was closed before Python began
+            raise OSError(errno.EBADF, os.strerror(errno.EBADF))
+        return sys.stdin.buffer.read(size)
+    except OSError as failed:
+        raise Failed("standard input: %s" % failed.strerror) from None
 
 
 def _input() -> Iterator[bytes]:
     """Standard input in stretches, each of whole records but the last."""
     kept = b""
     while True:
-        got = sys.stdin.buffer.read(_STRETCH)
+        got = _read(_STRETCH)
         if not got:
             break
         kept += got
@@ -216,16 +251,16 @@ def _part_in(words: Sequence[str]) -> Optional[Part]:
 
 def text_or_back(words: Sequence[str], out: TextIO) -> int:
     if list(words) == ["-d"]:
-        out.write(text.text_of(sys.stdin.buffer.read()))
+        out.write(text.text_of(_read()))
         return OK
     part = _part_in(words)
-    out.buffer.write(text.records_of(sys.stdin.buffer.read(), "standard input", part=part))
+    out.buffer.write(text.records_of(_read(), "standard input", part=part))
     return OK
 
 
 def jobs_told(words: Sequence[str], out: TextIO) -> int:
     part = _part_in(words)
-    for line in jobs.told(sys.stdin.buffer.read(), part):
+    for line in jobs.told(_read(), part):
         out.write("%6d  %s\n" % line)
     return OK
 
@@ -258,6 +293,13 @@ def dump(words: Sequence[str], out: TextIO) -> int:
     return OK
 
 
+def _written(bench: Bench) -> Set[int]:
+    """The stretches of a folder's array that are no holes: so two parts of 9 GB are compared without reading 18 GB."""
+    assert bench.folder is not None
+    with open(bench.folder / "array", "rb") as file:
+        return folder.with_data(file.fileno(), len(bench.array))
+
+
 def _differences(one: Bench, other: Bench) -> Iterator[str]:
     if bytes(one.page) != bytes(other.page):
         at = [i for i in range(PAGE_LENGTH) if one.page[i] != other.page[i]]
@@ -268,6 +310,7 @@ def _differences(one: Bench, other: Bench) -> Iterator[str]:
         yield "array, counts and flags are of other lengths, and are not compared"
         return
     part = one.part
+    written = _written(one) | _written(other)
     for lun in range(part.luns):
         for block in range(part.blocks):
             flag = lun * part.blocks + block
@@ -275,7 +318,8 @@ def _differences(one: Bench, other: Bench) -> Iterator[str]:
                 yield "LUN %d, block %d: flag %d and %d" % (lun, block, one.flags[flag], other.flags[flag])
             start, size = part.page_start(lun, block, 0), part.pages * part.page_size
             number = part.page_number(lun, block, 0)
-            if one.array[start:start + size] == other.array[start:start + size] \
+            holes = written.isdisjoint(folder.stretches_of(start, size))
+            if (holes or one.array[start:start + size] == other.array[start:start + size]) \
                     and one.counts[number:number + part.pages] == other.counts[number:number + part.pages]:
                 continue
             for index in range(part.pages):
@@ -348,6 +392,8 @@ def _asked(words: Sequence[str]) -> Tuple[Command, Sequence[str]]:
 def main(words: Sequence[str]) -> int:
     try:
         command, rest = _asked(words)
+        if sys.stdout is None:
+            raise Failed("standard output: %s" % os.strerror(errno.EBADF))
         status = command(rest, sys.stdout)
         sys.stdout.flush()
         return status
@@ -362,7 +408,7 @@ def main(words: Sequence[str]) -> int:
     except (Failed, folder.FolderError, text.BadWord) as failed:
         print("%s: %s" % (NAME, failed), file=sys.stderr)
     except OSError as failed:
-        where = failed.filename if failed.filename is not None else "standard input or output"
+        where = failed.filename if failed.filename is not None else "standard output"
         print("%s: %s: %s" % (NAME, where, failed.strerror or failed), file=sys.stderr)
     except ValueError as failed:
         print("%s: %s" % (NAME, failed), file=sys.stderr)
@@ -372,6 +418,8 @@ def main(words: Sequence[str]) -> int:
 
 def _drop_output() -> None:
     """What could not be written is not tried again at exit."""
+    if sys.stdout is None:
+        return
     try:
         sys.stdout.flush()
     except OSError:

@@ -4,6 +4,7 @@ from __future__ import annotations
 import ctypes
 import mmap
 import os
+from contextlib import contextmanager
 from pathlib import Path
 from typing import BinaryIO, Iterable, Iterator, List, NamedTuple, Optional, Sequence, Set, Tuple, Union
 
@@ -32,8 +33,15 @@ class FolderError(OSError):
     """A part folder is not one: the message names the file and what is wrong with it."""
 
 
-def _lengths(part: Part) -> List[Tuple[str, int]]:
-    return [("array", part.array_length), ("counts", part.counts_length), ("flags", part.flags_length)]
+@contextmanager
+def _naming(path: Path) -> Iterator[None]:
+    """What goes wrong with a file that is open says its name too."""
+    try:
+        yield
+    except OSError as failed:
+        if failed.errno is None or failed.filename is not None:
+            raise
+        raise OSError(failed.errno, failed.strerror, str(path)) from failed
 
 
 def _file(folder: Path, name: str, due: int) -> bytes:
@@ -81,7 +89,7 @@ def make(path: Path, page: bytes, device_id: int, flags: Sequence[int] = (), mar
     try:
         for name, contents in (("page", page), ("id", bytes((device_id,))), ("array", None),
                                ("counts", bytes(part.counts_length)), ("flags", held)):
-            with open(path / name, "xb") as file:
+            with _naming(path / name), open(path / name, "xb") as file:
                 made.append(path / name)
                 if contents is not None:
                     file.write(contents)
@@ -109,8 +117,13 @@ def _write_array(file: BinaryIO, part: Part, marks: Iterable[Tuple[int, int]]) -
         file.write(bytes((mark,)))
 
 
-def _with_data(base: int, length: int) -> Set[int]:
-    """Which stretches of a file have bytes on the disk; the others are holes."""
+def stretches_of(start: int, length: int) -> range:
+    """The numbers of the stretches that hold these bytes."""
+    return range(start // _STRETCH, (start + length + _STRETCH - 1) // _STRETCH)
+
+
+def with_data(base: int, length: int) -> Set[int]:
+    """Which stretches of a file have bytes on the disk; the others are holes, all 00h."""
     found: Set[int] = set()
     at = 0
     while at < length:
@@ -119,7 +132,7 @@ def _with_data(base: int, length: int) -> Set[int]:
         except OSError:
             break
         end = os.lseek(base, at, os.SEEK_HOLE)
-        found.update(range(at // _STRETCH, (end + _STRETCH - 1) // _STRETCH))
+        found.update(stretches_of(at, end - at))
         at = end
     return found
 
@@ -137,7 +150,7 @@ def _stretches(view: memoryview, base: Optional[int]) -> Iterator[int]:
         yield from starts
         return
     try:
-        data = _with_data(base, len(view))
+        data = with_data(base, len(view))
         place = ctypes.addressof(ctypes.c_uint8.from_buffer(view)) // mmap.PAGESIZE * 8
         for start in starts:
             entries = -(-min(_STRETCH, len(view) - start) // mmap.PAGESIZE) * 8
@@ -151,7 +164,7 @@ def _stretches(view: memoryview, base: Optional[int]) -> Iterator[int]:
 def _write_beside(path: Path, contents: Buffer, base: Optional[int]) -> None:
     """The file's new contents beside it, on the disk. What is all 00h is left a hole."""
     zeros = bytes(_STRETCH)
-    with memoryview(contents) as view, open(path, "wb") as file:
+    with _naming(path), memoryview(contents) as view, open(path, "wb") as file:
         file.truncate(len(view))
         for at in _stretches(view, base):
             stretch = view[at:at + _STRETCH]

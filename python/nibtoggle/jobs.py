@@ -13,6 +13,7 @@ import ctypes
 from dataclasses import dataclass
 from typing import Iterator, List, NamedTuple, Optional, Tuple, Union
 
+from . import checks
 from ._library import Library
 from .part import Part
 
@@ -82,7 +83,7 @@ def records(job: Job, library: Optional[Library] = None) -> bytes:
     if job.count < 0:
         raise ValueError("a count of %d data cycles" % job.count)
     takes_data, gives_data = job.kind == "program", job.kind in ("read-out", "status")
-    data = bytes(job.data) if takes_data else b""
+    data = checks.data(job.data) if takes_data else b""
     length = _FIXED[job.kind] + 2 * (len(data) if takes_data else job.count if gives_data else 0)
     room = ctypes.create_string_buffer(length)
     answer = (library or Library.found()).job_write(

@@ -2,7 +2,7 @@
 from __future__ import annotations
 
 from dataclasses import dataclass
-from typing import Iterable, Iterator, List, Tuple
+from typing import Iterable, List, Tuple
 
 from . import checks
 
@@ -91,7 +91,7 @@ class Part:
 
     def lun_of(self, row: int) -> int:
         """The LUN field of a row, whether that LUN exists or not."""
-        return row >> (_bits(self.blocks) + _bits(self.pages))
+        return checks.number("row", row, 0, 0xFFFFFF) >> (_bits(self.blocks) + _bits(self.pages))
 
     def page_number(self, lun: int, block: int, page: int) -> int:
         """Which page it is in the order of the array: LUN, block, page. ValueError where there is none."""
@@ -110,14 +110,14 @@ class Part:
             flags[lun * self.blocks + block] = 1
         return flags
 
-    def marks(self, flags: Iterable[int]) -> Iterator[Tuple[int, int]]:
+    def marks(self, flags: Iterable[int]) -> List[Tuple[int, int]]:
         """Where the array has a block's mark, as makers put it, and the mark: the first spare byte of the block's first page is
         00h in a bad block, and FFh in a good one."""
         if self.spare == 0:
             raise ValueError("the part has no spare bytes, and so no place for a block's mark")
         size = self.pages * self.page_size
-        for number, flag in enumerate(flags):
-            yield number * size + self.page_size - self.spare, 0x00 if flag else 0xFF
+        return [(number * size + self.page_size - self.spare, 0x00 if flag else 0xFF)
+                for number, flag in enumerate(flags)]
 
     def _look(self, lun: int, block: int, page: int) -> None:
         checks.lun(self, lun)

@@ -29,6 +29,29 @@ class Versions(unittest.TestCase):
         said = done([sys.executable, str(ROOT / "tools" / "version"), "--check"])
         self.assertEqual((said.returncode, said.stdout), (0, ""))
 
+    def test_a_new_one_is_set_everywhere(self) -> None:
+        places = ("VERSION", "tools/version", "include/nibtoggle.h", "docs/CHANGELOG.md",
+                  "python/nibtoggle/__init__.py", "crates/nib_speech/src/lib.rt", "crates/nib_speech/specs/Speech.antt")
+        with tempfile.TemporaryDirectory() as folder:
+            for name in places:
+                (Path(folder) / name).parent.mkdir(parents=True, exist_ok=True)
+                shutil.copy(ROOT / name, Path(folder) / name)
+            check = [sys.executable, str(Path(folder) / "tools" / "version"), "--check"]
+            self.assertEqual(done(check).stdout, "")
+            log = Path(folder) / "docs" / "CHANGELOG.md"
+            log.write_text("# Changes\n\n## 9.8.7, to come\n\n## %s\n" % VERSION, encoding="utf-8")
+            self.assertEqual(done(check).stdout, "")
+            self.assertEqual(done(check[:-1] + ["9.8.7"]).returncode, 0)
+            self.assertEqual((done(check).stdout, log.read_text(encoding="utf-8").splitlines()[2]), ("", "## 9.8.7"))
+            # each place is looked at: one that has the old number is named
+            for name in places[2:]:
+                new = (Path(folder) / name).read_text(encoding="utf-8")
+                shutil.copy(ROOT / name, Path(folder) / name)
+                said = done(check)
+                self.assertEqual(said.returncode, 1)
+                self.assertIn(name, said.stdout)
+                (Path(folder) / name).write_text(new, encoding="utf-8")
+
     def test_the_library_has_it_too(self) -> None:
         import nibtoggle
         number = nibtoggle.Library.found().version()
@@ -50,8 +73,23 @@ class Prefix(unittest.TestCase):
     def test_all_of_it(self) -> None:
         self.library_by_pkg_config()
         self.package_and_commands()
-        # a second time over the first
-        self.assertEqual(done([str(ROOT / "tools" / "install"), str(self.prefix)]).returncode, 0)
+        # a second time over the first; and beside, for whoever makes a package of it
+        self.assertEqual(done([str(ROOT / "tools" / "install"), str(self.prefix)],
+                              env={"PYTHON": sys.executable}).returncode, 0)
+        stage = self.prefix.parent / "stage"
+        said = done([str(ROOT / "tools" / "install"), "/nowhere/nib"],
+                    env={"PYTHON": sys.executable, "DESTDIR": str(stage)})
+        self.assertEqual(said.returncode, 0, said.stdout)
+        self.assertFalse(Path("/nowhere").exists())
+
+        def listed(folder: Path) -> List[str]:
+            mine = ("program", "own.so", "linked")          # made by this test
+            return sorted(str(path.relative_to(folder)) for path in folder.rglob("*")
+                          if path.name not in mine and "__pycache__" not in path.parts)
+
+        self.assertEqual(listed(stage / "nowhere" / "nib"), listed(self.prefix))
+        paper = stage / "nowhere" / "nib" / "lib" / "pkgconfig" / "nibtoggle.pc"
+        self.assertIn("prefix=/nowhere/nib\n", paper.read_text(encoding="utf-8"))
 
     def library_by_pkg_config(self) -> None:
         lib = self.prefix / "lib"
@@ -165,6 +203,51 @@ class Header(unittest.TestCase):
         named = set(re.findall(r"\bnib_\w+", " ".join(re.findall(r"/\*.*?\*/", text, flags=re.S)))) - {"nib_text_", "nib_say_"}
         self.assertEqual(sorted(named - there), [])
         self.assertGreater(len(named), 10)
+
+    def test_the_checked_row(self) -> None:
+        """nib_row_of answers whether the numbers exist, and gives a row only then."""
+        program = """#include "nibtoggle.h"
+#include <stdio.h>
+int main(void) {
+    const nib_part part = {528, 3, 5, 2};
+    for (unsigned i = 0; i < 3 * 6 * 4; i++) {
+        uint32_t row = 7777;
+        int there = nib_row_of(part, i / 24, i / 4 % 6, i % 4, &row);
+        printf("%u %u %u %d %u\\n", i / 24, i / 4 % 6, i % 4, there, (unsigned)row);
+    }
+    return 0;
+}
+"""
+        with tempfile.TemporaryDirectory() as folder:
+            (Path(folder) / "row.c").write_text(program, encoding="utf-8")
+            built = done(["cc", "-std=c11", "-Wall", "-Wextra", "-Werror", "-I%s" % (ROOT / "include"), "row.c", "-o",
+                          "row"], cwd=folder)
+            self.assertEqual(built.returncode, 0, built.stdout)
+            lines = done([str(Path(folder) / "row")]).stdout.splitlines()
+        self.assertEqual(len(lines), 72)
+        for line in lines:
+            lun, block, page, there, row = map(int, line.split())
+            exists = lun < 2 and block < 5 and page < 3
+            self.assertEqual((there, row), (1, (lun << 3 | block) << 2 | page) if exists else (0, 7777))
+
+    def test_it_declares_what_the_library_has(self) -> None:
+        text = (ROOT / "include" / "nibtoggle.h").read_text(encoding="utf-8")
+        code = re.sub(r"/\*.*?\*/", " ", text, flags=re.S)
+        outside = re.sub(r"static inline [^{;]*\{.*?\n?\}\n", " ", code, flags=re.S)
+        declared = set(re.findall(r"^(?:u?int\d+_t|size_t) (nib_\w+)\(", outside, re.M))
+        for name, words in (("libnibtoggle.so", ["-D"]), ("libnibtoggle.a", [])):
+            said = done(["nm", "--defined-only", "--extern-only", *words, str(ROOT / "target" / "host" / name)])
+            self.assertEqual(set(re.findall(r" T (\w+)$", said.stdout, re.M)), declared, name)
+        self.assertGreater(len(declared), 20)
+
+    def test_the_papers_name_no_function_that_does_not_exist(self) -> None:
+        header = (ROOT / "include" / "nibtoggle.h").read_text(encoding="utf-8")
+        # crates, and records and enums of the header, have such names too; `nib_text_*` is a family
+        there = set(re.findall(r"\b[nN][iI][bB]_\w+", re.sub(r"/\*.*?\*/", " ", header, flags=re.S))) | \
+            {path.name for path in (ROOT / "crates").iterdir()}
+        for path in (ROOT / "README.md", *sorted((ROOT / "docs").rglob("*.md"))):
+            named = set(re.findall(r"(?<![\w.·/])(?:nib|NIB)_\w+(?!\w|\*)", path.read_text(encoding="utf-8")))
+            self.assertEqual(sorted(name for name in named - there if not name.endswith("_")), [], path.name)
 
     def test_its_words_are_the_library_s(self) -> None:
         said = done([sys.executable, str(ROOT / "tools" / "words.py"), "--check"])

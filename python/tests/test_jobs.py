@@ -1,8 +1,12 @@
 """Whole jobs: the worked table of the request, both ways, and the bench's own jobs."""
+import sys
 import unittest
+from pathlib import Path
 
-from nibtoggle import Bench, Job
-from nibtoggle.jobs import Misfit, Whole, first_misfit, group, job_at, records
+sys.path.insert(0, str(Path(__file__).resolve().parent.parent))
+
+from nibtoggle import Bench, Job  # noqa: E402
+from nibtoggle.jobs import Misfit, Whole, first_misfit, group, job_at, records  # noqa: E402
 
 
 def trace(text: str) -> bytes:

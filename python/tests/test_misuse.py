@@ -2,6 +2,8 @@
 from __future__ import annotations
 
 import copy
+import importlib.util
+import inspect
 import os
 import pickle
 import subprocess
@@ -18,6 +20,8 @@ sys.path.insert(0, str(ROOT / "python"))
 
 import nibtoggle  # noqa: E402
 from nibtoggle import Bench, Part, Refused, Replies, parameter_page  # noqa: E402
+from nibtoggle.folder import LARGE  # noqa: E402
+from nibtoggle.jobs import Job, records  # noqa: E402
 
 
 def refused_in_a_pool(_: int) -> bytes:
@@ -77,13 +81,44 @@ class Numbers(unittest.TestCase):
         b = self.bench
         # bytes(5) are five of 00h, which nobody means who writes 5 for data
         for call in (lambda: b.program(0, 0, 0, 5), lambda: b.write(5), lambda: b.program(0, 0, 0, "x"),      # type: ignore[arg-type]
-                     lambda: b.set_feature(4)):                                                               # type: ignore[arg-type]
+                     lambda: b.set_feature(4), lambda: b.copyback_program(0, 0, 0, 5),      # type: ignore[arg-type]
+                     lambda: records(Job("program", 0, data=5))):                           # type: ignore[arg-type]
             self.sends_nothing(call, TypeError)
         for call in (lambda: b.protect(2), lambda: b.protect(-1), lambda: b.program_clear(64)):
             self.sends_nothing(call)
         b.program(0, 1, 0, [0x3C, 0xA5])                                                                      # type: ignore[arg-type]
         self.assertEqual(bytes(b.page_of(0, 1, 0)[:2]), b"\x3C\xA5")
         self.assertTrue(b.protect(True).ok and b.protect(0).ok)
+
+    #: What each number of a call may be on T1, by its name there, and values outside.
+    GOOD = {"lun": 0, "block": 0, "page": 0, "column": 0, "data": b"x", "kind": 0, "value": 0xFF, "count": 1,
+            "copies": 1, "address": 1, "values": bytes(4), "polls": 1, "low": 1, "on": 1}
+    WRONG = {"lun": (-1, 2, 255, 256), "block": (-1, 8, 1 << 32), "page": (-1, 4, 256), "column": (-1, 528, 65536),
+             "kind": (-1, 256, 0x1FF), "value": (-1, 256, 0x1FF), "count": (-1,), "copies": (-1, 4),
+             "address": (-1, 256), "polls": (0, -1), "row": (-1, 1 << 24), "low": (-1, 2), "on": (-1, 2)}
+
+    def test_every_number_of_every_job(self) -> None:
+        tried = set()
+        for owner in (self.bench, self.bench.part):
+            for name, call in inspect.getmembers(owner, inspect.ismethod):
+                if name.startswith("_") or call.__self__ is not owner:
+                    continue
+                takes = inspect.signature(call).parameters
+                for number in self.WRONG.keys() & takes.keys():
+                    others = {n for n in takes if n in self.GOOD and takes[n].default is inspect.Parameter.empty}
+                    # LUN, block and page belong together, and a row stands for them
+                    others |= takes.keys() & {"lun", "block", "page"} if number != "row" else set()
+                    for value in self.WRONG[number]:
+                        words = {**{n: self.GOOD[n] for n in others}, number: value}
+                        with self.subTest(call=name, **{number: value}):
+                            self.sends_nothing(lambda: call(**words))
+                            tried.add((name, number))
+        self.assertGreaterEqual({name for name, _ in tried}, {
+            "program", "load", "read_page", "read_out", "erase", "status", "poll", "resume", "copyback_read",
+            "copyback_program", "finish", "command", "event", "read", "get_feature", "parameters", "page_of",
+            "register",
+            "working", "copyback_open", "blank", "protect", "program_clear", "row", "lun_of", "page_number",
+            "page_start"})
 
     def test_the_message_names_the_number_and_its_range(self) -> None:
         with self.assertRaisesRegex(ValueError, "page is 0 to 3, and 4 was given"):
@@ -146,6 +181,39 @@ class Told(unittest.TestCase):
             Bench(parameter_page(pages=300), 0x68)
         again = pickle.loads(pickle.dumps(caught.exception))
         self.assertEqual((str(again), again.detail), (str(caught.exception), caught.exception.detail))
+
+    def test_every_exception_passes(self) -> None:
+        calls = (lambda: Bench.t1().command(0x90), lambda: nibtoggle.records_of("c zz"),
+                 lambda: nibtoggle.check_page(b"ONFI"), lambda: nibtoggle.check_page(bytes(768)),
+                 lambda: Bench.open(ROOT / "docs"), lambda: working.poll(polls=2))
+        working = Bench.t1()
+        working.reset()
+        working.load(0, 0, 0)
+        for call in calls:
+            with self.assertRaises(Exception) as caught:
+                call()
+            again = pickle.loads(pickle.dumps(caught.exception))
+            self.assertEqual((type(again), str(again)), (type(caught.exception), str(caught.exception)))
+            self.assertEqual(vars(again).keys(), vars(caught.exception).keys())
+
+    def test_under_xdist(self) -> None:
+        for module in ("pytest", "xdist"):
+            if importlib.util.find_spec(module) is None:
+                self.skipTest("no %s here; tools/test-host takes Debian's" % module)
+        with tempfile.TemporaryDirectory() as folder:
+            test = Path(folder) / "test_loader.py"
+            test.write_text("from nibtoggle import Bench\n\n\n"
+                            "def test_save():\n    Bench.t1().program(0, 0, 0, b'x')\n\n\n"
+                            "def test_saved():\n    bench = Bench.t1(strict=False)\n    replies = bench.erase(0, 0)\n"
+                            "    assert replies.ok\n\n\ndef test_good():\n    assert Bench.t1().reset().ok\n",
+                            encoding="utf-8")
+            environment = dict(os.environ, PYTHONPATH=str(ROOT / "python"), PYTHONDONTWRITEBYTECODE="1")
+            said = subprocess.run([sys.executable, "-m", "pytest", "-q", "-n", "2", "-p", "no:cacheprovider",
+                                   str(test)], env=environment,
+                                  cwd=folder, stdout=subprocess.PIPE, stderr=subprocess.STDOUT, text=True).stdout
+        self.assertIn("2 failed, 1 passed", said)
+        self.assertIn("command 80h refused with 2: " + nibtoggle.RULES[2], said)
+        self.assertIn("command 60h refused with 2: " + nibtoggle.RULES[2], said)
 
     def test_a_bench_has_a_repr(self) -> None:
         bench = Bench.t1()
@@ -268,6 +336,34 @@ class NewFiles(unittest.TestCase):
             self.assertIn(name, str(said[0].message))
             self.assertIn("unwritten ones are 00h", str(said[0].message))
             self.assertEqual(said[0].filename, __file__)
+
+    def test_the_stated_size_is_the_limit(self) -> None:
+        # 64 pages of 1,024 bytes a block, so 64 KiB; 1,024 blocks are 64 MiB, which docs/PARTS.md states
+        self.assertEqual(LARGE, 67_108_864)
+        self.assertIn("67,108,864 bytes (64 MiB)", (ROOT / "docs" / "PARTS.md").read_text(encoding="utf-8"))
+        for blocks, warned, first in ((1024, 0, b"\xFF"), (1025, 1, b"\0")):
+            path = self.path.with_name("array-%d" % blocks)
+            with warnings.catch_warnings(record=True) as said:
+                warnings.simplefilter("always")
+                bench = Bench(parameter_page(data=1024, spare=0, pages=64, blocks=blocks, luns=1), 0x68, array=path)
+            self.assertEqual((len(bench.array), len(said)), (blocks << 16, warned))
+            self.assertEqual(bytes(bench.array[:4096]) + bytes(bench.array[-4096:]), first * 8192)
+            bench.close()
+
+    def test_a_bad_block_that_does_not_exist_makes_no_file(self) -> None:
+        folder, spareless = self.path.with_name("t1"), parameter_page(spare=0)
+        for bad in ([(0, 8)], [(2, 0)], [(0, -1)]):
+            for call in (lambda: Bench.t1(array=self.path, bad=bad), lambda: Bench.new(folder, bad=bad)):
+                self.assertRaisesRegex(ValueError, "and -?[0-9] was given", call)
+        for call in (lambda: Bench(spareless, 0x68, array=self.path, marks=True),
+                     lambda: Bench.new(folder, spareless, marks=True)):
+            self.assertRaisesRegex(ValueError, "no place for a block's mark", call)
+        self.assertEqual(list(self.path.parent.iterdir()), [])
+        # a page that is refused says so itself, whatever else is given; so does a wrong number of flags
+        with self.assertRaisesRegex(Refused, "pages a block: 300"):
+            Bench(parameter_page(pages=300), 0x68, bad=[(0, 1)], marks=True)
+        with self.assertRaisesRegex(Refused, "flags: 17 bytes, and 16 are due"):
+            Bench.t1(flags=bytes(17), marks=True)
 
     def test_a_refused_page_makes_no_file(self) -> None:
         page = bytearray(parameter_page())

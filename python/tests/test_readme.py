@@ -4,11 +4,13 @@ from __future__ import annotations
 import doctest
 import os
 import re
+import shutil
 import subprocess
 import sys
 import tempfile
 import unittest
 from pathlib import Path
+from unittest import mock
 
 ROOT = Path(__file__).resolve().parent.parent.parent
 sys.path.insert(0, str(ROOT / "python"))
@@ -24,11 +26,20 @@ class Readme(unittest.TestCase):
     def test_its_commands(self) -> None:
         self.assertGreater(len(boxes("sh")), 3)
         with tempfile.TemporaryDirectory() as folder:
+            # in a copy of the repository, for pip leaves files there; what is built is shared
+            copy = Path(folder) / "copy"
+            left_out = shutil.ignore_patterns("target", ".git", "__pycache__", "build", "*.egg-info")
+            shutil.copytree(ROOT, copy, symlinks=True, ignore=left_out)
+            shutil.copytree(ROOT / "crates" / "target", copy / "crates" / "target", dirs_exist_ok=True)
+            (copy / "target").symlink_to(ROOT / "target")
             script = Path(folder) / "readme.sh"
             script.write_text("set -eu\n" + "\n".join(boxes("sh")), encoding="utf-8")
-            environment = dict(os.environ, TMPDIR=folder)
+            # python3 is the one that runs this, for Debian's setuptools belong to it
+            path = "%s:%s" % (Path(sys.executable).parent, os.environ["PATH"])
+            environment = dict(os.environ, TMPDIR=folder, PATH=path)
             environment.pop("PYTHONPATH", None)
-            done = subprocess.run(["sh", str(script)], cwd=ROOT, env=environment, stdout=subprocess.PIPE, stderr=subprocess.STDOUT, text=True)
+            done = subprocess.run(["sh", str(script)], cwd=copy, env=environment, stdout=subprocess.PIPE,
+                                  stderr=subprocess.STDOUT, text=True)
             self.assertEqual(done.returncode, 0, done.stdout)
             # what explain and jobs write is what the README prints
             for first in ("power-on accepted", "     1  no job: command FFh  reset"):
@@ -36,13 +47,17 @@ class Readme(unittest.TestCase):
                 assert printed is not None
                 self.assertIn("".join(line[4:] + "\n" for line in printed.group(0).splitlines()), done.stdout)
             self.assertIn("LUN 1, block 5, page 3: programmed 1 times", done.stdout)
+            # what stands in a box that is not typed is the gate itself, lines that are printed, or files' words
+            self.assertEqual(re.findall(r"^    (?:\$ )?(?:rt|tools/\w|cc|nib|python3|pip|\.ci/run)\b.*", TEXT, re.M),
+                             ["    .ci/run"])
 
     def test_its_python(self) -> None:
         session = doctest.DocTestParser().get_doctest("\n".join(boxes("python")), {}, "README.md", "README.md", 0)
         self.assertGreater(len(session.examples), 8)
         said: "list[str]" = []
         flags = doctest.ELLIPSIS
-        failed = doctest.DocTestRunner(verbose=False, optionflags=flags).run(session, out=said.append).failed
+        with tempfile.TemporaryDirectory() as folder, mock.patch.object(tempfile, "tempdir", folder):
+            failed = doctest.DocTestRunner(verbose=False, optionflags=flags).run(session, out=said.append).failed
         self.assertEqual((failed, "".join(said)), (0, ""))
 
     def test_the_demo_s_lines_are_the_demo_s(self) -> None:

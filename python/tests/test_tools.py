@@ -5,6 +5,8 @@ import contextlib
 import importlib.machinery
 import importlib.util
 import io
+import os
+import re
 import subprocess
 import sys
 import tempfile
@@ -57,9 +59,42 @@ class BuildHost(unittest.TestCase):
         self.assertIn("up to date", rest)
 
 
+class Examples(unittest.TestCase):
+    """An answer of the library's that an example does not look at does not compile, or is found here."""
+
+    FLAGS = ["-std=c11", "-Wall", "-Wextra", "-Werror", "-I%s" % (ROOT / "include"),
+             "-I%s" % (ROOT / "examples" / "loader"), "-c", "-o", os.devnull]
+    SOURCES = sorted((ROOT / "examples").rglob("*.c"))
+
+    def test_every_answer_is_looked_at(self) -> None:
+        self.assertIn("lost_preset.c", [path.name for path in self.SOURCES])
+        for path in self.SOURCES:
+            done = subprocess.run(["cc", *self.FLAGS, str(path)], stdout=subprocess.PIPE, stderr=subprocess.STDOUT,
+                                  text=True)
+            self.assertEqual((done.returncode, done.stdout), (0, ""))
+            # a call that is a statement of its own throws its answer away
+            text = re.sub(r"/\*.*?\*/", " ", path.read_text(encoding="utf-8"), flags=re.S)
+            thrown = re.findall(r"(?:[;{})]|\belse)\s*(?:\(void\)\s*)?(nib_(?:lent_)?(?:power_on|event|trace)\()", text)
+            self.assertEqual(thrown, [], path.name)
+
+    def test_one_that_ignores_an_answer_does_not_compile(self) -> None:
+        text = (ROOT / "examples" / "lost_preset.c").read_text(encoding="utf-8")
+        for call in ("nib_lent_power_on(", "nib_lent_trace("):
+            looks = "uint32_t answer = " + call
+            self.assertEqual(text.count(looks), 1)
+            with tempfile.TemporaryDirectory() as folder:
+                ignores = Path(folder) / "ignores.c"
+                ignores.write_text(text.replace(looks, "uint32_t answer = 0; " + call), encoding="utf-8")
+                done = subprocess.run(["cc", *self.FLAGS, str(ignores)], stdout=subprocess.PIPE,
+                                      stderr=subprocess.STDOUT, text=True)
+            self.assertNotEqual(done.returncode, 0)
+            self.assertIn("unused-result", done.stdout)
+
+
 class Scripts(unittest.TestCase):
     def test_each_knows_its_help(self) -> None:
-        for name, words in (("install", []), ("install", ["-x"]), ("version", ["nonsense"])):
+        for name, words in (("install", []), ("install", ["-x"]), ("version", ["nonsense"]), ("test-faults", ["-x"]),
+                            ("test-faults", ["--nonsense"])):
             done = subprocess.run([str(ROOT / "tools" / name)] + words, stdout=subprocess.PIPE, stderr=subprocess.PIPE, text=True)
             self.assertEqual((done.returncode, done.stdout), (2, ""))
             self.assertIn("tools/" + name, done.stderr)
