@@ -197,7 +197,7 @@ def tested(words: Sequence[str], out: TextIO) -> int:
     bench = _open(words[0])
     library = Library.any()
     try:
-        outcome = scripts.run(bench, sys.stdin.buffer.read(), "standard input")
+        outcome = scripts.run(bench, _read(), "standard input")
         for failure in outcome.failures:
             print("%s: %s" % (NAME, failure), file=sys.stderr)
         out.write(library.words(library.say_script, outcome.events, outcome.expectations) + "\n")
