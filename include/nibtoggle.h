@@ -622,9 +622,10 @@ size_t nib_say_status(uint8_t byte, uint8_t *out, size_t length);
 size_t nib_say_row(uint8_t first, size_t row, size_t luns, size_t blocks, size_t pages, uint8_t *out, size_t length);
 
 /* Data in a row is told in one line: accepted data in; data out that gave a byte; data out that gave one and the same
- * status byte. What is held back is a number, 0 where nothing is. Ask of each event, by its record and its reply;
- * status is not 0 where the output was a status before it. nib_fold_goes: 1 where what is held back goes out first;
- * nib_fold_next: what is held back then, and 0 where the event is told by itself. */
+ * status byte. What is held back is a number, 0 at the start; divided by 1,024 it is how many cycles are. Ask of each
+ * event, by its record and its reply; status is not 0 where the output was a status before it. nib_fold_goes: 1 where
+ * what is held back goes out first; nib_fold_next: what is held back then: no cycles where the event is told by
+ * itself. */
 uint64_t nib_fold_next(uint64_t state, uint8_t kind, uint8_t value, uint8_t first, uint8_t second, uint8_t status);
 uint8_t nib_fold_goes(uint64_t state, uint8_t kind, uint8_t value, uint8_t first, uint8_t second, uint8_t status);
 

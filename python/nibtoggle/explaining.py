@@ -18,6 +18,8 @@ _STATUS, _OF_A_LUN = 3, (1, 3)
 _LAST_OF_ROW = 2
 #: So many bytes of a run are shown.
 _SHOWN = 16
+#: What is held back has the number of its cycles from this bit on.
+_COUNT_FROM = 10
 #: How many were accepted, and how many each of the rules 1 to 16 refused.
 _COUNTS = 17
 
@@ -77,7 +79,7 @@ class Explanation:
             held: int = self._library.fold_next(self._held, *given)
             if goes:
                 yield from self.rest()
-            if held:
+            if held >> _COUNT_FROM:
                 self._hold(held, record[-1] if record[0] == DATA_IN else second)
                 return
         yield text.columns(self._number, event, self._answer(first, second, lun, status))

@@ -26,7 +26,7 @@ def cells(line: str) -> Tuple[int, str, str]:
     """Number, event and answer of a line: the answer begins at column 44, or one blank after an event that is longer."""
     number, rest = int(line[:6]), line[8:]
     for answer in ("accepted", "refused ", "byte ", "bytes "):
-        at = rest.find(" " + answer, 8)
+        at = rest.rfind(" " + answer, 8)
         if at >= 0:
             return number, rest[:at].rstrip(), rest[at + 1:]
     raise AssertionError(line)
