@@ -323,7 +323,7 @@ fn text_byte(
 }
 
 // The place after one of `n` places.
-pub fn place_after(i: usize, n: usize) -> usize
+fn place_after(i: usize, n: usize) -> usize
     requires { ⌜ i < n ⌝ }
     ensures { λ r. ⌜ r ≡ i + 1 ⌝ }
 {
