@@ -35,7 +35,7 @@ joins h r byte = ltb 0 (runNumber r) && eqb (runNumber r) (runNumber (h .run)) &
 unfoldable pub heldNext : Held → Run → ℕ → Held
 heldNext h r byte =
     pick (joins h r byte) (record { run = h .run; byte = h .byte; count = up (h .count) })
-    (record { run = r; byte = byte; count = pick (eqb (runNumber r) 0) 0 1 })
+    (record { run = r; byte = pick (eqb (runNumber r) 0) 0 byte; count = pick (eqb (runNumber r) 0) 0 1 })
 
 -- what is held back goes out before the cycle is told
 unfoldable pub goesOut : Held → Run → ℕ → Bool

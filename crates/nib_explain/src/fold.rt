@@ -1,5 +1,6 @@
 // Data cycles in a row are told in one line: what is held back, and when it goes out.
 use nib_text::reading::up;
+use target::picks::pick_byte;
 use target::picks::pick_number;
 ghost use mathlib.Core.Path.{_≡_};
 ghost use Rattle.target.specs.Pick.{pick};
@@ -84,7 +85,12 @@ pub fn held_next(h: Held, run: Run, byte: u8) -> Held
     };
     let alone = run_number(run) == 0;
     let count = pick_number(alone, 0, 1);
-    let begun = Held { run, byte, count };
+    let byte_held = pick_byte(alone, 0, byte);
+    let begun = Held {
+        run,
+        byte: byte_held,
+        count,
+    };
     pick_held(joins(h, run, byte), more, begun)
 }
 

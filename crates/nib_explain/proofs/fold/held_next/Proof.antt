@@ -14,6 +14,9 @@ run-number-requires c κs = search needs
 pick-number-requires : tie.Need-pick-number-requires
 pick-number-requires c κs = search needs
 
+pick-byte-requires : tie.Need-pick-byte-requires
+pick-byte-requires c κs = search needs
+
 joins-requires : tie.Need-joins-requires
 joins-requires c κs = search needs
 
@@ -27,12 +30,14 @@ returns c =
     let c2 = c1 .before in
     let c3 = c2 .before in
     let c4 = c3 .before in
+    let c5 = c4 .before in
     rw (
       c .pick-held .ensures,
       c1 .joins .ensures,
-      c2 .pick-number .ensures,
-      c3 .run-number .ensures,
-      c4 .up .ensures,
+      c2 .pick-byte .ensures,
+      c3 .pick-number .ensures,
+      c4 .run-number .ensures,
+      c5 .up .ensures,
     )
 
 pub held-next-spec : {M : Type 1} → statement M
@@ -42,6 +47,7 @@ held-next-spec =
     up-requires
     run-number-requires
     pick-number-requires
+    pick-byte-requires
     joins-requires
     pick-held-requires
     returns)
