@@ -25,10 +25,10 @@ USAGE = """\
   nibtoggle parts                  the parts that have a name
   nibtoggle run DIR < TRACE        replies on standard output; the folder is brought up to date
   nibtoggle explain [-v] DIR < TRACE  the same in words; with -v each event on a line; the folder stays as it is
-  nibtoggle test DIR < TEXT        runs a text and what it expects, as: = 3c a5  ! 5  ok; stored if all held, status 3 if not
-  nibtoggle page FILE or DIR       what a parameter page says, and power-on's answer; of a folder its blank blocks too
   nibtoggle dump DIR LUN BLOCK PAGE   a page of the array; the folder stays as it is
   nibtoggle diff DIR DIR           where two parts differ; status 3 if they do
+  nibtoggle test DIR < TEXT        runs a text and what it expects, as: = 3c a5  ! 5  ok; stored if all held, status 3 if not
+  nibtoggle page FILE or DIR       what a parameter page says, and power-on's answer; of a folder its blank blocks too
   nibtoggle text < TEXT > TRACE    a trace from text, as: c 80  a 00 00 37 00 00  d 3c  o 16  f 1  p 0
   nibtoggle text DIR < TEXT        with whole jobs too, on the folder's part, as: program 1 5 3 0 3c a5  f 1  erase 1 5
   nibtoggle text -d < TRACE        a trace as text

@@ -350,8 +350,8 @@ class Commands(Tried):
         for written, command in ((0, "explain"), (1, "run")):
             status, said, error = self.call(command, "large", given=trace)
             self.assertEqual((status, error), (0, ""))
-            self.assertEqual(said[-6:] if written else said.splitlines()[-3][-8:],
-                             b"\x01\x3C\x01\xA5\x01\xFF" if written else b"byte 3Ch")
+            self.assertEqual(said[-6:] if written else said.splitlines()[-2][-17:],
+                             b"\x01\x3C\x01\xA5\x01\xFF" if written else b"bytes 3Ch A5h FFh")
             status, said, _ = self.call("dump", "large", "1", "4095", "127")
             self.assertEqual(status, 0)
             self.assertIn(b"LUN 1, block 4095, page 127: programmed %d times" % written, said)

@@ -234,7 +234,7 @@ int main(void) {
         text = (ROOT / "include" / "nibtoggle.h").read_text(encoding="utf-8")
         code = re.sub(r"/\*.*?\*/", " ", text, flags=re.S)
         outside = re.sub(r"static inline [^{;]*\{.*?\n?\}\n", " ", code, flags=re.S)
-        declared = set(re.findall(r"^(?:u?int\d+_t|size_t) (nib_\w+)\(", outside, re.M))
+        declared = set(re.findall(r"^(?:u?int\d+_t|size_t|void) (nib_\w+)\(", outside, re.M))
         for name, words in (("libnibtoggle.so", ["-D"]), ("libnibtoggle.a", [])):
             said = done(["nm", "--defined-only", "--extern-only", *words, str(ROOT / "target" / "host" / name)])
             self.assertEqual(set(re.findall(r" T (\w+)$", said.stdout, re.M)), declared, name)

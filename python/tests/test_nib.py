@@ -393,7 +393,7 @@ class Defects(Nib):
 
     def test_help_makes_no_folder(self) -> None:
         for words in (["new", "--help"], ["run", "--help"], ["explain", "--help"], ["page", "--help"], ["--help"]):
-            self.assertIn(b"nib explain DIR < TRACE", self.good(*words))
+            self.assertIn(b"nib explain [-v] DIR < TRACE", self.good(*words))
         for words in (["new", "-x"], ["run", "-x"], ["new", "-x", "page"], ["new", "-d"]):
             said, error = self.nib(*words)
             self.assertEqual(said, b"")
