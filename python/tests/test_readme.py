@@ -15,6 +15,9 @@ from unittest import mock
 ROOT = Path(__file__).resolve().parent.parent.parent
 sys.path.insert(0, str(ROOT / "python"))
 
+import nibtoggle  # noqa: E402
+from nibtoggle.text import records_of  # noqa: E402
+
 TEXT = (ROOT / "README.md").read_text(encoding="utf-8")
 
 
@@ -50,6 +53,21 @@ class Readme(unittest.TestCase):
             # what stands in a box that is not typed is the gate itself, lines that are printed, or files' words
             self.assertEqual(re.findall(r"^    (?:\$ )?(?:rt|tools/\w|cc|nib|python3|pip|\.ci/run)\b(?!:).*", TEXT, re.M),
                              ["    .ci/run"])
+
+    def test_what_is_not_there_is_refused_as_it_says(self) -> None:
+        said = re.search(r"^Not there, and refused with 1: (.*?)\. A timing mode", TEXT, re.M | re.S)
+        assert said is not None
+        left_out = [int(byte, 16) for byte in re.findall(r"\b([0-9A-F]{2})h\b", said.group(1))]
+        self.assertEqual(len(left_out), 11)
+        part = nibtoggle.PARTS["W"]                     # every option that the model has
+        bench = nibtoggle.Bench(part.page, part.device_id, strict=False)
+        bench.reset()
+        for byte in left_out:
+            self.assertEqual((byte, bench.command(byte).refusal), (byte, 1))
+        for words, number in (("c ef a 01 d 05", 9), ("c ef a 80", 4), ("c 90 a 40", 4),
+                              ("c 80 a 00 00 00 00 00 c 85 a 00 00 00", 3)):
+            replies = bench.trace(records_of(words)).raw
+            self.assertEqual((words, set(replies[:-2:2]), tuple(replies[-2:])), (words, {0}, (2, number)))
 
     def test_its_python(self) -> None:
         session = doctest.DocTestParser().get_doctest("\n".join(boxes("python")), {}, "README.md", "README.md", 0)
