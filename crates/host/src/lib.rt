@@ -39,7 +39,6 @@ use unread::Unread;
 use unread::unread_part;
 ghost use mathlib.Core.Path.{_≡_};
 ghost use lib.ListN.{length};
-ghost use Rattle.target.specs.Pick.{pick};
 ghost use Rattle.host.specs.Image.{cyclesIn, placeIn, keptIn, unpacked, imageFrom, packed, marksGood, good, taken, putBack, replyNumber, HostEvent, eventOn, HostTrace, traceOn, HostPower, powerWith, sourceNumber, restNumber, restOn};
 
 // The record as a host holds it: `nib_target` of include/nibtoggle.h.
@@ -251,28 +250,19 @@ pub fn good(i: Image) -> bool
         & same_place(k, of_output(to_output(k)))
 }
 
-fn pick_target(b: bool, x: Target, y: Target) -> Target
-    ensures { λ t. ⌜ t ≡ pick b x y ⌝ }
-{
-    if b { x } else { y }
-}
-
-fn pick_image(b: bool, x: Image, y: Image) -> Image
-    ensures { λ i. ⌜ i ≡ pick b x y ⌝ }
-{
-    if b { x } else { y }
-}
-
-fn take(i: Image) -> Target
+// What the numbers stand for. Whether they are good is asked once an event.
+fn take(ok: bool, i: Image) -> Target
+    requires { ⌜ ok ≡ good i ⌝ }
     ensures { λ t. ⌜ t ≡ taken i ⌝ }
 {
-    pick_target(good(i), unpack(i), unpowered())
+    if ok { unpack(i) } else { unpowered() }
 }
 
-fn put_back(i: Image, t: Target) -> Image
+fn put_back(ok: bool, i: Image, t: Target) -> Image
+    requires { ⌜ ok ≡ good i ⌝ }
     ensures { λ n. ⌜ n ≡ putBack i t ⌝ }
 {
-    pick_image(good(i), pack(t), i)
+    if ok { pack(t) } else { i }
 }
 
 pub fn reply_number(a: Reply) -> u32
@@ -303,12 +293,13 @@ pub fn event_on(
         (eventOn i kind value (now (page .entry)) (record { array = now (array .entry); registers = now (registers .entry); counts = now (counts .entry) }) (now (flags .entry))) ⌝ }
 {
     let e = Event { kind, value };
-    let s = step::step(take(i), e, page, array, registers, counts, flags);
+    let ok = good(i);
+    let s = step::step(take(ok, i), e, page, array, registers, counts, flags);
     let reply = s.reply;
     let next = s.target;
     Answered {
         answer: reply_number(reply),
-        image: put_back(i, next),
+        image: put_back(ok, i, next),
     }
 }
 
@@ -327,8 +318,9 @@ pub fn trace_on(
         (record { answer = r .answer; image = r .image; buffers = record { array = now (array .exit); registers = now (registers .exit); counts = now (counts .exit) }; room = now (replies .exit) })
         (traceOn i (now (records .entry)) (now (replies .entry)) (now (page .entry)) (record { array = now (array .entry); registers = now (registers .entry); counts = now (counts .entry) }) (now (flags .entry))) ⌝ }
 {
+    let ok = good(i);
     let s = trace::run(
-        take(i),
+        take(ok, i),
         records,
         replies,
         page,
@@ -341,7 +333,7 @@ pub fn trace_on(
     let next = s.target;
     Answered {
         answer: run_number(answer) as u32,
-        image: put_back(i, next),
+        image: put_back(ok, i, next),
     }
 }
 
@@ -390,7 +382,7 @@ pub fn rest_number(u: Unread) -> u64
 pub fn rest_on(i: Image, page: usize, registers: usize) -> u64
     ensures { λ n. ⌜ n ≡ restOn i page registers ⌝ }
 {
-    rest_number(unread_part(take(i), page, registers))
+    rest_number(unread_part(take(good(i), i), page, registers))
 }
 
 // One event on a record that the host lends: the first reply byte times 256, and the second.

@@ -13,8 +13,6 @@ use target::RowCycles;
 use target::Sequence;
 use target::Wait;
 use target::commands::place_of;
-use target::picks::pick_output;
-use target::picks::pick_sequence;
 use target::records::blank_at;
 use target::records::copyback_at;
 use target::records::failed;
@@ -106,41 +104,56 @@ pub fn to_sequence(c: Cycles) -> Sequence
     let first = first_at(c.first);
     let column = Column(c.column);
     let row = Row(c.row);
-    let columns = ColumnCycles {
-        first,
-        got: c.got,
-        low: c.low,
-    };
-    let rows = RowCycles {
-        first,
-        column,
-        got: c.got,
-        low: c.low,
-        mid: c.mid,
-    };
-    let due = Wait { first, column, row };
-    let filling = Fill {
-        first,
-        row,
-        at: column,
-    };
-    let moving = Moved {
-        first,
-        row,
-        got: c.got,
-        low: c.low,
-    };
-    let setting = FeatureBytes {
-        got: c.got,
-        value: c.value,
-    };
-    let s = pick_sequence(kind == 7, Sequence::Setting(setting), Sequence::Idle);
-    let s = pick_sequence(kind == 6, Sequence::Moving(moving), s);
-    let s = pick_sequence(kind == 5, Sequence::Filling(filling), s);
-    let s = pick_sequence(kind == 4, Sequence::Due(due), s);
-    let s = pick_sequence(kind == 3, Sequence::Single(first), s);
-    let s = pick_sequence(kind == 2, Sequence::Rows(rows), s);
-    pick_sequence(kind == 1, Sequence::Columns(columns), s)
+    if kind == 1 {
+        let k = ColumnCycles {
+            first,
+            got: c.got,
+            low: c.low,
+        };
+        return Sequence::Columns(k);
+    }
+    if kind == 2 {
+        let k = RowCycles {
+            first,
+            column,
+            got: c.got,
+            low: c.low,
+            mid: c.mid,
+        };
+        return Sequence::Rows(k);
+    }
+    if kind == 3 {
+        return Sequence::Single(first);
+    }
+    if kind == 4 {
+        let k = Wait { first, column, row };
+        return Sequence::Due(k);
+    }
+    if kind == 5 {
+        let k = Fill {
+            first,
+            row,
+            at: column,
+        };
+        return Sequence::Filling(k);
+    }
+    if kind == 6 {
+        let k = Moved {
+            first,
+            row,
+            got: c.got,
+            low: c.low,
+        };
+        return Sequence::Moving(k);
+    }
+    if kind == 7 {
+        let k = FeatureBytes {
+            got: c.got,
+            value: c.value,
+        };
+        return Sequence::Setting(k);
+    }
+    Sequence::Idle
 }
 
 pub fn of_sequence(s: Sequence) -> Cycles
@@ -255,19 +268,28 @@ pub fn to_output(p: Place) -> Output
     ensures { λ r. ⌜ r ≡ outputOf p ⌝ }
 {
     let kind = p.kind;
-    let column = Column(p.at);
-    let register = Output::Register { lun: p.lun, column };
-    let parameters = Output::Parameters { at: p.at };
-    let status = Output::Status { lun: p.lun };
-    let ids = Output::Ids { at: p.at };
-    let signature = Output::Signature { at: p.at };
-    let feature = Output::Feature { at: p.at };
-    let o = pick_output(kind == 6, feature, Output::Nothing);
-    let o = pick_output(kind == 5, signature, o);
-    let o = pick_output(kind == 4, ids, o);
-    let o = pick_output(kind == 3, status, o);
-    let o = pick_output(kind == 2, parameters, o);
-    pick_output(kind == 1, register, o)
+    let at = p.at;
+    let lun = p.lun;
+    if kind == 1 {
+        let column = Column(at);
+        return Output::Register { lun, column };
+    }
+    if kind == 2 {
+        return Output::Parameters { at };
+    }
+    if kind == 3 {
+        return Output::Status { lun };
+    }
+    if kind == 4 {
+        return Output::Ids { at };
+    }
+    if kind == 5 {
+        return Output::Signature { at };
+    }
+    if kind == 6 {
+        return Output::Feature { at };
+    }
+    Output::Nothing
 }
 
 pub fn of_output(o: Output) -> Place

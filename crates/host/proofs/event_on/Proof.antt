@@ -5,6 +5,9 @@ use borrow.Author.Needs.{needs}
 use Rattle.host.proofs.event_on.Statement.{statement}
 use Rattle.host.proofs.event_on.Tie as tie
 
+good-requires : tie.Need-good-requires
+good-requires c κs = search needs
+
 take-requires : tie.Need-take-requires
 take-requires c κs = search needs
 
@@ -43,6 +46,7 @@ pub event-on-spec : {M : Type 1} → statement M
 event-on-spec =
     tie.close
     (tie.spec
+    good-requires
     take-requires
     step-requires
     reply-number-requires

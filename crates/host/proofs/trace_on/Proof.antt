@@ -5,6 +5,9 @@ use borrow.Author.Needs.{needs}
 use Rattle.host.proofs.trace_on.Statement.{statement}
 use Rattle.host.proofs.trace_on.Tie as tie
 
+good-requires : tie.Need-good-requires
+good-requires c κs = search needs
+
 take-requires : tie.Need-take-requires
 take-requires c κs = search needs
 
@@ -14,8 +17,8 @@ run-requires c κs = search needs
 run-number-requires : tie.Need-run-number-requires
 run-number-requires c κs = search needs
 
-cast-t22 : tie.Need-cast-t22
-cast-t22 c = search needs
+cast-t23 : tie.Need-cast-t23
+cast-t23 c = search needs
 
 put-back-requires : tie.Need-put-back-requires
 put-back-requires c κs = search needs
@@ -49,10 +52,11 @@ pub trace-on-spec : {M : Type 1} → statement M
 trace-on-spec =
     tie.close
     (tie.spec
+    good-requires
     take-requires
     run-requires
     run-number-requires
-    cast-t22
+    cast-t23
     put-back-requires
     same-length
     same-length-2

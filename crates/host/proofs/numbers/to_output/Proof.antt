@@ -1,51 +1,89 @@
 -- `host::numbers::to_output` meets its contract.
 -- Assumes nothing.
-use borrow.Author.Needs.{needs}
+use borrow.Author.Tests.{eq-eqb, ne-eqb}
 use Rattle.host.proofs.numbers.to_output.Statement.{statement}
 use Rattle.host.proofs.numbers.to_output.Tie as tie
 
-pick-output-requires : tie.Need-pick-output-requires
-pick-output-requires c κs = search needs
-
-pick-output-requires-2 : tie.Need-pick-output-requires-2
-pick-output-requires-2 c κs = search needs
-
-pick-output-requires-3 : tie.Need-pick-output-requires-3
-pick-output-requires-3 c κs = search needs
-
-pick-output-requires-4 : tie.Need-pick-output-requires-4
-pick-output-requires-4 c κs = search needs
-
-pick-output-requires-5 : tie.Need-pick-output-requires-5
-pick-output-requires-5 c κs = search needs
-
-pick-output-requires-6 : tie.Need-pick-output-requires-6
-pick-output-requires-6 c κs = search needs
-
 returns : tie.Need-returns
 returns c =
+    rw (eq-eqb _ _ (c .if1 .taken))
+
+returns-2 : tie.Need-returns-2
+returns-2 c =
+    let c1 = c .before in
+    rw (
+      eq-eqb _ _ (c .if2 .taken),
+      ne-eqb _ _ (c1 .if1 .left),
+    )
+
+returns-3 : tie.Need-returns-3
+returns-3 c =
+    let c1 = c .before in
+    let c2 = c1 .before in
+    rw (
+      eq-eqb _ _ (c .if3 .taken),
+      ne-eqb _ _ (c1 .if2 .left),
+      ne-eqb _ _ (c2 .if1 .left),
+    )
+
+returns-4 : tie.Need-returns-4
+returns-4 c =
+    let c1 = c .before in
+    let c2 = c1 .before in
+    let c3 = c2 .before in
+    rw (
+      eq-eqb _ _ (c .if4 .taken),
+      ne-eqb _ _ (c1 .if3 .left),
+      ne-eqb _ _ (c2 .if2 .left),
+      ne-eqb _ _ (c3 .if1 .left),
+    )
+
+returns-5 : tie.Need-returns-5
+returns-5 c =
+    let c1 = c .before in
+    let c2 = c1 .before in
+    let c3 = c2 .before in
+    let c4 = c3 .before in
+    rw (
+      eq-eqb _ _ (c .if5 .taken),
+      ne-eqb _ _ (c1 .if4 .left),
+      ne-eqb _ _ (c2 .if3 .left),
+      ne-eqb _ _ (c3 .if2 .left),
+      ne-eqb _ _ (c4 .if1 .left),
+    )
+
+returns-6 : tie.Need-returns-6
+returns-6 c =
     let c1 = c .before in
     let c2 = c1 .before in
     let c3 = c2 .before in
     let c4 = c3 .before in
     let c5 = c4 .before in
     rw (
-      c .pick-output6 .ensures,
-      c1 .pick-output5 .ensures,
-      c2 .pick-output4 .ensures,
-      c3 .pick-output3 .ensures,
-      c4 .pick-output2 .ensures,
-      c5 .pick-output .ensures,
+      eq-eqb _ _ (c .if6 .taken),
+      ne-eqb _ _ (c1 .if5 .left),
+      ne-eqb _ _ (c2 .if4 .left),
+      ne-eqb _ _ (c3 .if3 .left),
+      ne-eqb _ _ (c4 .if2 .left),
+      ne-eqb _ _ (c5 .if1 .left),
+    )
+
+returns-7 : tie.Need-returns-7
+returns-7 c =
+    let c1 = c .before in
+    let c2 = c1 .before in
+    let c3 = c2 .before in
+    let c4 = c3 .before in
+    let c5 = c4 .before in
+    rw (
+      ne-eqb _ _ (c .if6 .left),
+      ne-eqb _ _ (c1 .if5 .left),
+      ne-eqb _ _ (c2 .if4 .left),
+      ne-eqb _ _ (c3 .if3 .left),
+      ne-eqb _ _ (c4 .if2 .left),
+      ne-eqb _ _ (c5 .if1 .left),
     )
 
 pub to-output-spec : {M : Type 1} → statement M
 to-output-spec =
-    tie.close
-    (tie.spec
-    pick-output-requires
-    pick-output-requires-2
-    pick-output-requires-3
-    pick-output-requires-4
-    pick-output-requires-5
-    pick-output-requires-6
-    returns)
+    tie.close (tie.spec returns returns-2 returns-3 returns-4 returns-5 returns-6 returns-7)
