@@ -43,8 +43,8 @@ extern "C" {
 
 /* The version of this header; nib_version() is that of the library, and has the same number: major, minor and patch,
  * a byte each. While major is 0, a change of minor may change the record. */
-#define NIB_VERSION "0.6.0"
-#define NIB_VERSION_NUMBER UINT32_C(1536)
+#define NIB_VERSION "0.6.1"
+#define NIB_VERSION_NUMBER UINT32_C(1537)
 uint32_t nib_version(void);
 
 /* ---- The record ----

@@ -22,7 +22,7 @@ from .scripts import ExpectationFailed, Failure, Outcome
 from .text import BadWord, records_of, text_of
 
 #: As VERSION has it; tools/version sets it everywhere.
-__version__ = "0.6.0"
+__version__ = "0.6.1"
 
 __all__ = [
     "BadWord",

@@ -24,7 +24,7 @@ use Rattle.nib_text.specs.declared.writing.Writing.{Writing}
 
 -- 0.5.0
 abbrev pub versionNumber : ℕ
-versionNumber = 1536
+versionNumber = 1537
 
 abbrev pub bit : Bool → ℕ
 bit true = 1

@@ -44,7 +44,7 @@ ghost use Rattle.nib_speech.specs.Pieces.{reasonWords, backWords, endWor
 pub fn version_number() -> u32
     ensures { λ r. ⌜ r ≡ versionNumber ⌝ }
 {
-    1536
+    1537
 }
 
 #[no_mangle]
