@@ -9,7 +9,7 @@ use test_judge_parts::show::print_line;
 use test_judge_parts::show::print_totals;
 use test_judge_parts::state::Array;
 use test_judge_parts::state::Bytes;
-use test_judge_parts::state::Page;
+use test_judge_parts::state::Fixed;
 use test_judge_parts::state::Registers;
 use test_judge_parts::state::State;
 use test_judge_parts::state::keep;
@@ -70,44 +70,17 @@ fn one_line(
     seed: usize,
     count: usize,
     line: usize,
-    records: &mut Bytes,
-    replies: &mut Bytes,
-    page: &mut Page,
+    fixed: &mut Fixed,
     array: &mut Array,
     registers: &mut Registers,
     counts: &mut Bytes,
-    flags: &mut Bytes,
 ) {
-    let mut g = [0usize; 80];
+    let mut g = [0usize; 8272];
     g[place::SHOW] = shown;
     if line < 374 {
-        run_line(
-            &mut g,
-            seed,
-            count,
-            line,
-            records,
-            replies,
-            page,
-            array,
-            registers,
-            counts,
-            flags,
-        );
+        run_line(&mut g, seed, count, line, fixed, array, registers, counts);
     } else {
-        run_power_line(
-            &mut g,
-            seed,
-            count,
-            line,
-            records,
-            replies,
-            page,
-            array,
-            registers,
-            counts,
-            flags,
-        );
+        run_power_line(&mut g, seed, count, line, fixed, array, registers, counts);
     }
     print_line(&g, line / 17, line % 17);
     add_up(total, &g);
@@ -115,14 +88,11 @@ fn one_line(
 
 // The lines from 'first' up to 'end'.
 fn all_lines(shown: usize, seed: usize, count: usize, first: usize, end: usize) -> State {
-    let mut total = [0usize; 80];
-    let mut records = [0u8; 8192];
-    let mut replies = [0u8; 8192];
-    let mut page = [0u8; 260];
+    let mut total = [0usize; 8272];
+    let mut fixed = [0u8; 8452];
     let mut array = [0u8; 131072];
     let mut registers = [0u8; 36864];
     let mut counts = [0u8; 8192];
-    let mut flags = [0u8; 8192];
     let mut line = first;
     while line < end {
         one_line(
@@ -131,13 +101,10 @@ fn all_lines(shown: usize, seed: usize, count: usize, first: usize, end: usize) 
             seed,
             count,
             line,
-            &mut records,
-            &mut replies,
-            &mut page,
+            &mut fixed,
             &mut array,
             &mut registers,
             &mut counts,
-            &mut flags,
         );
         line += 1;
     }

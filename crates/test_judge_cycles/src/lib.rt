@@ -5,21 +5,20 @@ use test_judge_parts::place;
 use test_judge_parts::random::below;
 use test_judge_parts::random::half;
 use test_judge_parts::random::sometimes;
-use test_judge_parts::state::Bytes;
 use test_judge_parts::state::State;
 use test_judge_parts::state::number;
+use test_judge_parts::state::put_byte;
 use test_kit::numbers::add;
 use test_kit::numbers::at_most;
-use test_kit::numbers::byte;
 use test_kit::numbers::power;
 use test_kit::numbers::sub;
 use test_kit::numbers::times;
 
-pub fn put(g: &mut State, records: &mut Bytes, kind: usize, value: usize) {
+pub fn put(g: &mut State, kind: usize, value: usize) {
     let at = g[place::LEN];
     if at < 8191 {
-        records[at] = byte(kind);
-        records[at + 1] = byte(value);
+        put_byte(g, at, kind);
+        put_byte(g, at + 1, value);
         g[place::LEN] = at + 2;
     }
 }
@@ -38,32 +37,32 @@ pub fn set_busy(g: &mut State, lun: usize) {
     }
 }
 
-pub fn put_finish(g: &mut State, records: &mut Bytes, lun: usize) {
-    put(g, records, 4, lun);
+pub fn put_finish(g: &mut State, lun: usize) {
+    put(g, 4, lun);
     if (lun < 4) & is_busy(g, lun) {
         g[place::BUSY] = sub(g[place::BUSY], power(lun));
     }
 }
 
-pub fn put_reset(g: &mut State, records: &mut Bytes) {
-    put(g, records, 0, 255);
+pub fn put_reset(g: &mut State) {
+    put(g, 0, 255);
     g[place::BUSY] = 0;
     g[place::SELECTED] = 0;
 }
 
-pub fn put_bad(g: &mut State, records: &mut Bytes) {
+pub fn put_bad(g: &mut State) {
     let what = below(g, 4);
     let value = below(g, 254);
     match what {
         0 => {
             let kind = add(6, below(g, 250));
-            put(g, records, kind, value)
+            put(g, kind, value)
         }
-        1 => put(g, records, 3, add(1, value)),
-        2 => put(g, records, 5, add(2, value)),
+        1 => put(g, 3, add(1, value)),
+        2 => put(g, 5, add(2, value)),
         _ => {
             let lun = at_most(add(g[field::LUNS], value), 255);
-            put(g, records, 4, lun)
+            put(g, 4, lun)
         }
     }
 }
@@ -73,53 +72,53 @@ pub fn pick_lun(g: &mut State) -> usize {
     below(g, luns)
 }
 
-fn sprinkle_finish(g: &mut State, records: &mut Bytes) {
+fn sprinkle_finish(g: &mut State) {
     if sometimes(g, knob::SPRINKLE) {
         let lun = pick_lun(g);
-        put_finish(g, records, lun);
+        put_finish(g, lun);
     }
 }
 
-fn sprinkle_bad(g: &mut State, records: &mut Bytes) {
+fn sprinkle_bad(g: &mut State) {
     if sometimes(g, knob::BAD) {
-        put_bad(g, records);
+        put_bad(g);
     }
 }
 
-fn sprinkle_protect(g: &mut State, records: &mut Bytes) {
+fn sprinkle_protect(g: &mut State) {
     if sometimes(g, knob::GUARD) {
         let level = at_most(below(g, 3), 1);
-        put(g, records, 5, level);
+        put(g, 5, level);
     }
 }
 
-fn sprinkle_reset(g: &mut State, records: &mut Bytes) {
+fn sprinkle_reset(g: &mut State) {
     if sometimes(g, knob::RESET) {
-        put_reset(g, records);
+        put_reset(g);
     }
 }
 
 // One bus cycle, and before it what the knobs sprinkle in.
-pub fn cycle(g: &mut State, records: &mut Bytes, kind: usize, value: usize) {
-    sprinkle_finish(g, records);
-    sprinkle_bad(g, records);
-    sprinkle_protect(g, records);
-    sprinkle_reset(g, records);
-    put(g, records, kind, value);
+pub fn cycle(g: &mut State, kind: usize, value: usize) {
+    sprinkle_finish(g);
+    sprinkle_bad(g);
+    sprinkle_protect(g);
+    sprinkle_reset(g);
+    put(g, kind, value);
 }
 
-pub fn command(g: &mut State, records: &mut Bytes, value: usize) {
-    cycle(g, records, 0, value);
+pub fn command(g: &mut State, value: usize) {
+    cycle(g, 0, value);
 }
 
-pub fn address(g: &mut State, records: &mut Bytes, value: usize) {
-    cycle(g, records, 1, value);
+pub fn address(g: &mut State, value: usize) {
+    cycle(g, 1, value);
 }
 
-pub fn take_out(g: &mut State, records: &mut Bytes, n: usize) {
+pub fn take_out(g: &mut State, n: usize) {
     let mut i: usize = 0;
     while i < n {
-        cycle(g, records, 3, 0);
+        cycle(g, 3, 0);
         i += 1;
     }
 }
@@ -185,10 +184,10 @@ pub fn pick_row(g: &mut State, lun: usize) -> usize {
     }
 }
 
-pub fn put_row(g: &mut State, records: &mut Bytes, lun: usize, row: usize) {
-    address(g, records, row % 256);
-    address(g, records, row / 256 % 256);
-    address(g, records, row / 65536);
+pub fn put_row(g: &mut State, lun: usize, row: usize) {
+    address(g, row % 256);
+    address(g, row / 256 % 256);
+    address(g, row / 65536);
     g[place::SELECTED] = lun;
 }
 
@@ -219,9 +218,9 @@ pub fn pick_column(g: &mut State) -> usize {
     }
 }
 
-pub fn put_column(g: &mut State, records: &mut Bytes, column: usize) {
-    address(g, records, column % 256);
-    address(g, records, column / 256);
+pub fn put_column(g: &mut State, column: usize) {
+    address(g, column % 256);
+    address(g, column / 256);
 }
 
 // How much data from a column on: near the end it goes to the end, or past it.
@@ -239,25 +238,25 @@ pub fn pick_length(g: &mut State, column: usize) -> usize {
     some
 }
 
-pub fn make_ready(g: &mut State, records: &mut Bytes, lun: usize) {
+pub fn make_ready(g: &mut State, lun: usize) {
     if (g[knob::CARE] == 1) & is_busy(g, lun) {
-        put_finish(g, records, lun);
+        put_finish(g, lun);
     }
 }
 
-pub fn make_all_ready(g: &mut State, records: &mut Bytes) {
+pub fn make_all_ready(g: &mut State) {
     let luns = number(g, field::LUNS);
     let mut lun: usize = 0;
     while lun < luns {
-        make_ready(g, records, lun);
+        make_ready(g, lun);
         lun += 1;
     }
 }
 
 // After 30h, 35h, 10h, D0h: half of the time the finish follows.
-pub fn begin_work(g: &mut State, records: &mut Bytes, lun: usize) {
+pub fn begin_work(g: &mut State, lun: usize) {
     set_busy(g, lun);
     if half(g) {
-        make_ready(g, records, lun);
+        make_ready(g, lun);
     }
 }

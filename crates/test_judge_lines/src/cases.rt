@@ -1,5 +1,6 @@
 // Power-on: damaged parts, limits, single bytes.
 use power::power_number;
+use target::Target;
 use test_judge_cycles::put_bad;
 use test_judge_cycles::put_reset;
 use test_judge_parts::field;
@@ -16,13 +17,14 @@ use test_judge_parts::random::seed_line;
 use test_judge_parts::show::show;
 use test_judge_parts::state::Array;
 use test_judge_parts::state::Bytes;
-use test_judge_parts::state::Page;
+use test_judge_parts::state::Fixed;
 use test_judge_parts::state::Registers;
 use test_judge_parts::state::State;
 use test_judge_parts::state::keep;
 use test_judge_parts::state::number;
 use test_judge_parts::state::one_more;
 use test_judge_parts::state::store;
+use test_judge_parts::state::store_flag;
 use test_judge_runs::absorb_blanks;
 use test_judge_runs::absorb_buffers;
 use test_judge_runs::powered;
@@ -35,72 +37,93 @@ use test_kit::numbers::set;
 use test_kit::numbers::sub;
 use test_kit::numbers::times;
 
-// Limits at power-on: field, value.
-struct LimitRow(usize, usize);
+// Limits at power-on: the field of each, and its value.
+fn limit_field(i: usize) -> usize {
+    match i {
+        0..=8 => field::DATA,
+        9..=14 => field::SPARE,
+        15..=22 => field::PAGES,
+        23..=30 => field::BLOCKS,
+        31..=37 => field::LUNS,
+        38..=44 => field::PROGRAMS,
+        45..=51 => field::CYCLES,
+        52 | 53 => field::WIDE,
+        54 | 55 => field::MANY,
+        _ => field::OPTIONS,
+    }
+}
 
-const LIMITS: [LimitRow; 58] = [
-    LimitRow(field::DATA, 0),
-    LimitRow(field::DATA, 15),
-    LimitRow(field::DATA, 16),
-    LimitRow(field::DATA, 17),
-    LimitRow(field::DATA, 16383),
-    LimitRow(field::DATA, 16384),
-    LimitRow(field::DATA, 16385),
-    LimitRow(field::DATA, 65552),
-    LimitRow(field::DATA, 16777232),
-    LimitRow(field::SPARE, 0),
-    LimitRow(field::SPARE, 1),
-    LimitRow(field::SPARE, 2047),
-    LimitRow(field::SPARE, 2048),
-    LimitRow(field::SPARE, 2049),
-    LimitRow(field::SPARE, 65535),
-    LimitRow(field::PAGES, 0),
-    LimitRow(field::PAGES, 1),
-    LimitRow(field::PAGES, 2),
-    LimitRow(field::PAGES, 255),
-    LimitRow(field::PAGES, 256),
-    LimitRow(field::PAGES, 257),
-    LimitRow(field::PAGES, 65537),
-    LimitRow(field::PAGES, 16777217),
-    LimitRow(field::BLOCKS, 0),
-    LimitRow(field::BLOCKS, 1),
-    LimitRow(field::BLOCKS, 2),
-    LimitRow(field::BLOCKS, 4095),
-    LimitRow(field::BLOCKS, 4096),
-    LimitRow(field::BLOCKS, 4097),
-    LimitRow(field::BLOCKS, 65537),
-    LimitRow(field::BLOCKS, 16777217),
-    LimitRow(field::LUNS, 0),
-    LimitRow(field::LUNS, 1),
-    LimitRow(field::LUNS, 2),
-    LimitRow(field::LUNS, 3),
-    LimitRow(field::LUNS, 4),
-    LimitRow(field::LUNS, 5),
-    LimitRow(field::LUNS, 255),
-    LimitRow(field::PROGRAMS, 0),
-    LimitRow(field::PROGRAMS, 1),
-    LimitRow(field::PROGRAMS, 2),
-    LimitRow(field::PROGRAMS, 7),
-    LimitRow(field::PROGRAMS, 8),
-    LimitRow(field::PROGRAMS, 9),
-    LimitRow(field::PROGRAMS, 255),
-    LimitRow(field::CYCLES, 0),
-    LimitRow(field::CYCLES, 34),
-    LimitRow(field::CYCLES, 35),
-    LimitRow(field::CYCLES, 36),
-    LimitRow(field::CYCLES, 51),
-    LimitRow(field::CYCLES, 19),
-    LimitRow(field::CYCLES, 163),
-    LimitRow(field::WIDE, 0),
-    LimitRow(field::WIDE, 1),
-    LimitRow(field::MANY, 0),
-    LimitRow(field::MANY, 1),
-    LimitRow(field::OPTIONS, 0),
-    LimitRow(field::OPTIONS, 63),
+const LIMITS: [usize; 58] = [
+    // data bytes
+    0,
+    15,
+    16,
+    17,
+    16383,
+    16384,
+    16385,
+    65552,
+    16777232,
+    // spare bytes
+    0,
+    1,
+    2047,
+    2048,
+    2049,
+    65535,
+    // pages
+    0,
+    1,
+    2,
+    255,
+    256,
+    257,
+    65537,
+    16777217,
+    // blocks
+    0,
+    1,
+    2,
+    4095,
+    4096,
+    4097,
+    65537,
+    16777217,
+    // LUNs
+    0,
+    1,
+    2,
+    3,
+    4,
+    5,
+    255,
+    // programs
+    0,
+    1,
+    2,
+    7,
+    8,
+    9,
+    255,
+    // address cycles
+    0,
+    34,
+    35,
+    36,
+    51,
+    19,
+    163,
+    // a wide bus, many LUNs, options
+    0,
+    1,
+    0,
+    1,
+    0,
+    63,
 ];
 
-fn limit_row(i: usize) -> LimitRow {
-    if i < 58 { LIMITS[i] } else { LIMITS[0] }
+fn limit_value(i: usize) -> usize {
+    if i < 58 { LIMITS[i] } else { 0 }
 }
 
 fn bad_field(g: &mut State) {
@@ -128,7 +151,7 @@ fn bad_length(g: &mut State) {
     keep(g, which, n);
 }
 
-fn bad_content(g: &mut State, counts: &mut Bytes, flags: &mut Bytes) {
+fn bad_content(g: &mut State, counts: &mut Bytes, fixed: &mut Fixed) {
     let what = below(g, 4);
     let n = g[place::COUNTS_LEN];
     let count = below(g, n);
@@ -137,8 +160,8 @@ fn bad_content(g: &mut State, counts: &mut Bytes, flags: &mut Bytes) {
     match what {
         0 => store(counts, count, add(g[field::PROGRAMS], 1)),
         1 => store(counts, count, 255),
-        2 => store(flags, flag, 2),
-        _ => store(flags, flag, 255),
+        2 => store_flag(fixed, flag, 2),
+        _ => store_flag(fixed, flag, 255),
     }
 }
 
@@ -150,15 +173,15 @@ fn flip(g: &mut State, page: &mut [u8], at: usize) {
 }
 
 // Damages a page that is whole so far: 21 and 22.
-fn bad_page(g: &mut State, page: &mut Page, signed_wrong: bool, crc_wrong: bool) {
+fn bad_page(g: &mut State, fixed: &mut Fixed, signed_wrong: bool, crc_wrong: bool) {
     if signed_wrong {
         let at = below(g, 4);
-        flip(g, page, at);
-        mend_crc(page);
+        flip(g, fixed, at);
+        mend_crc(fixed);
     }
     if crc_wrong {
         let at = add(4, below(g, 252));
-        flip(g, page, at);
+        flip(g, fixed, at);
     }
 }
 
@@ -173,74 +196,64 @@ fn bad_page_length(g: &mut State) {
     }
 }
 
-fn every_job(g: &mut State, records: &mut Bytes) {
+fn every_job(g: &mut State) {
     let mut job: usize = 0;
     while job < 25 {
-        one_job(g, records, job);
+        one_job(g, job);
         job += 1;
     }
+}
+
+// The trace after a power-on: each job, or where it was refused a bad record.
+fn make_case(g: &mut State, answer: usize) {
+    g[place::LEN] = 0;
+    put_reset(g);
+    if answer == 0 {
+        every_job(g);
+    } else {
+        put_bad(g);
+    }
+}
+
+// Powers on as lent: what came of it.
+fn power_as_lent(
+    g: &mut State,
+    fixed: &Fixed,
+    array: &Array,
+    registers: &mut Registers,
+    counts: &Bytes,
+) -> Target {
+    let p = powered(g, fixed, array, registers, counts);
+    let answer = p.answer;
+    let r = power_number(answer) as usize;
+    one_more(g, add(place::REFUSED, r));
+    absorb_buffers(g, fixed, array, registers, counts);
+    show(g, b" power ", r, 0, 0, 0);
+    let t = p.target;
+    absorb_blanks(t, g);
+    make_case(g, r);
+    t
 }
 
 // Powers on as lent, then tries each job on what came of it.
 fn power_case(
     g: &mut State,
-    records: &mut Bytes,
-    replies: &mut Bytes,
-    page: &Page,
+    fixed: &Fixed,
     array: &mut Array,
     registers: &mut Registers,
     counts: &mut Bytes,
-    flags: &Bytes,
 ) {
-    let p = powered(g, page, array, registers, counts, flags);
-    let answer = p.answer;
-    let r = power_number(answer) as usize;
-    one_more(g, add(place::REFUSED, r));
-    absorb_buffers(g, array, registers, counts, flags);
-    show(g, b" power ", r, 0, 0, 0);
-    let t = p.target;
-    absorb_blanks(t, g);
-    g[place::LEN] = 0;
-    put_reset(g, records);
-    if r == 0 {
-        every_job(g, records);
-    } else {
-        put_bad(g, records);
-    }
-    run_trace(
-        t,
-        g,
-        records,
-        replies,
-        page,
-        array,
-        registers,
-        counts,
-        flags,
-    );
-    absorb_buffers(g, array, registers, counts, flags);
+    let t = power_as_lent(g, fixed, array, registers, counts);
+    run_trace(t, g, fixed, array, registers, counts);
+    absorb_buffers(g, fixed, array, registers, counts);
     show(g, b" buffers ", 0, 0, 0, 0);
     one_more(g, place::TRACE);
 }
 
-// A small part with the damages 'one' and 'two', each 20 to 25 or 0 for none.
-fn damaged_case(
-    g: &mut State,
-    one: usize,
-    two: usize,
-    records: &mut Bytes,
-    replies: &mut Bytes,
-    page: &mut Page,
-    array: &mut Array,
-    registers: &mut Registers,
-    counts: &mut Bytes,
-    flags: &mut Bytes,
-) {
-    let part = add(2, below(g, 6));
-    load_part(g, part);
-    fill_buffers(g, array, registers, counts, flags);
+// Damages a part before its page is made: 25, 24 and 23.
+fn damage_part(g: &mut State, one: usize, two: usize, fixed: &mut Fixed, counts: &mut Bytes) {
     if (one == 25) | (two == 25) {
-        bad_content(g, counts, flags);
+        bad_content(g, counts, fixed);
     }
     if (one == 24) | (two == 24) {
         bad_length(g);
@@ -248,17 +261,49 @@ fn damaged_case(
     if (one == 23) | (two == 23) {
         bad_field(g);
     }
-    make_page(g, page);
+}
+
+// The page, and what damages it: 21, 22 and 20.
+fn damage_page(g: &mut State, one: usize, two: usize, fixed: &mut Fixed) {
+    make_page(g, fixed);
     bad_page(
         g,
-        page,
+        fixed,
         (one == 21) | (two == 21),
         (one == 22) | (two == 22),
     );
     if (one == 20) | (two == 20) {
         bad_page_length(g);
     }
-    power_case(g, records, replies, page, array, registers, counts, flags);
+}
+
+// A small part, drawn, and its first buffers.
+fn small_part(
+    g: &mut State,
+    fixed: &mut Fixed,
+    array: &mut Array,
+    registers: &mut Registers,
+    counts: &mut Bytes,
+) {
+    let part = add(2, below(g, 6));
+    load_part(g, part);
+    fill_buffers(g, fixed, array, registers, counts);
+}
+
+// A small part with the damages 'one' and 'two', each 20 to 25 or 0 for none.
+fn damaged_case(
+    g: &mut State,
+    one: usize,
+    two: usize,
+    fixed: &mut Fixed,
+    array: &mut Array,
+    registers: &mut Registers,
+    counts: &mut Bytes,
+) {
+    small_part(g, fixed, array, registers, counts);
+    damage_part(g, one, two, fixed, counts);
+    damage_page(g, one, two, fixed);
+    power_case(g, fixed, array, registers, counts);
 }
 
 // The smallest part with one field at a limit or past it.
@@ -266,46 +311,37 @@ fn limit_case(
     g: &mut State,
     i: usize,
     many: usize,
-    records: &mut Bytes,
-    replies: &mut Bytes,
-    page: &mut Page,
+    fixed: &mut Fixed,
     array: &mut Array,
     registers: &mut Registers,
     counts: &mut Bytes,
-    flags: &mut Bytes,
 ) {
     load_part(g, 7);
     g[field::MANY] = many;
-    let l = limit_row(i);
-    keep(g, l.0, l.1);
+    keep(g, limit_field(i), limit_value(i));
     measure(g);
     g[field::COUNTS] = 0;
-    fill_buffers(g, array, registers, counts, flags);
-    make_page(g, page);
-    power_case(g, records, replies, page, array, registers, counts, flags);
+    fill_buffers(g, fixed, array, registers, counts);
+    make_page(g, fixed);
+    power_case(g, fixed, array, registers, counts);
 }
 
 // One byte of a good page changed, the CRC mended.
 fn byte_case(
     g: &mut State,
     at: usize,
-    records: &mut Bytes,
-    replies: &mut Bytes,
-    page: &mut Page,
+    fixed: &mut Fixed,
     array: &mut Array,
     registers: &mut Registers,
     counts: &mut Bytes,
-    flags: &mut Bytes,
 ) {
-    let part = add(2, below(g, 6));
-    load_part(g, part);
-    fill_buffers(g, array, registers, counts, flags);
-    make_page(g, page);
-    flip(g, page, at);
+    small_part(g, fixed, array, registers, counts);
+    make_page(g, fixed);
+    flip(g, fixed, at);
     if at < 254 {
-        mend_crc(page);
+        mend_crc(fixed);
     }
-    power_case(g, records, replies, page, array, registers, counts, flags);
+    power_case(g, fixed, array, registers, counts);
 }
 
 // Case number 'i' of a kind: single damages, pairs of damages, limits, bytes.
@@ -313,62 +349,24 @@ fn one_case(
     g: &mut State,
     kind: usize,
     i: usize,
-    records: &mut Bytes,
-    replies: &mut Bytes,
-    page: &mut Page,
+    fixed: &mut Fixed,
     array: &mut Array,
     registers: &mut Registers,
     counts: &mut Bytes,
-    flags: &mut Bytes,
 ) {
     match kind {
-        0 => damaged_case(
-            g,
-            19 + i % 7,
-            0,
-            records,
-            replies,
-            page,
-            array,
-            registers,
-            counts,
-            flags,
-        ),
+        0 => damaged_case(g, 19 + i % 7, 0, fixed, array, registers, counts),
         1 => damaged_case(
             g,
             first_of(i % 15),
             second_of(i % 15),
-            records,
-            replies,
-            page,
+            fixed,
             array,
             registers,
             counts,
-            flags,
         ),
-        2 => limit_case(
-            g,
-            i % 58,
-            i / 58 % 2,
-            records,
-            replies,
-            page,
-            array,
-            registers,
-            counts,
-            flags,
-        ),
-        _ => byte_case(
-            g,
-            i % 256,
-            records,
-            replies,
-            page,
-            array,
-            registers,
-            counts,
-            flags,
-        ),
+        2 => limit_case(g, i % 58, i / 58 % 2, fixed, array, registers, counts),
+        _ => byte_case(g, i % 256, fixed, array, registers, counts),
     }
 }
 
@@ -408,33 +406,19 @@ pub fn run_power_line(
     seed: usize,
     count: usize,
     line: usize,
-    records: &mut Bytes,
-    replies: &mut Bytes,
-    page: &mut Page,
+    fixed: &mut Fixed,
     array: &mut Array,
     registers: &mut Registers,
     counts: &mut Bytes,
-    flags: &mut Bytes,
 ) {
     let kind = line % 17;
-    fill_with(page, 260, 0);
+    fill_with(fixed, 260, 0);
     seed_line(g, seed, line);
     load_knobs(g, 11);
     let n = cases(kind, count);
     let mut i: usize = 0;
     while i < n {
-        one_case(
-            g,
-            kind,
-            i,
-            records,
-            replies,
-            page,
-            array,
-            registers,
-            counts,
-            flags,
-        );
+        one_case(g, kind, i, fixed, array, registers, counts);
         i += 1;
     }
 }

@@ -18,30 +18,47 @@ use test_judge_parts::random::seed_line;
 use test_judge_parts::show::show;
 use test_judge_parts::state::Array;
 use test_judge_parts::state::Bytes;
-use test_judge_parts::state::Page;
+use test_judge_parts::state::Fixed;
 use test_judge_parts::state::Registers;
 use test_judge_parts::state::State;
 use test_judge_parts::state::fetch;
 use test_judge_parts::state::store;
+use test_judge_parts::state::store_flag;
 use test_judge_runs::absorb_blanks;
 use test_judge_runs::absorb_buffers;
 use test_judge_runs::powered;
 use test_judge_runs::run_trace;
 use test_judge_traces::traces::make_trace;
+use test_kit::numbers::add;
 use test_kit::numbers::at_most;
+use test_kit::numbers::get;
 use test_kit::numbers::times;
 
-// The first `n` bytes, each at most `most`.
-fn mend(s: &mut Bytes, n: usize, most: usize) {
+// The first `n` counts, each at most `most`.
+fn mend_counts(counts: &mut Bytes, n: usize, most: usize) {
     let mut i: usize = 0;
     while i < n {
-        let b = fetch(s, i);
-        store(s, i, at_most(b, most));
+        let b = fetch(counts, i);
+        store(counts, i, at_most(b, most));
         i += 1;
     }
 }
 
-fn change_one(g: &mut State, counts: &mut Bytes, flags: &mut Bytes) {
+fn flag(fixed: &Fixed, i: usize) -> usize {
+    get(fixed, add(260, i))
+}
+
+// The first `n` flags, each 0 or 1.
+fn mend_flags(fixed: &mut Fixed, n: usize) {
+    let mut i: usize = 0;
+    while i < n {
+        let b = flag(fixed, i);
+        store_flag(fixed, i, at_most(b, 1));
+        i += 1;
+    }
+}
+
+fn change_one(g: &mut State, counts: &mut Bytes, fixed: &mut Fixed) {
     let n = g[place::COUNTS_LEN];
     let at = below(g, n);
     let value = below(g, 256);
@@ -50,50 +67,54 @@ fn change_one(g: &mut State, counts: &mut Bytes, flags: &mut Bytes) {
     let at = below(g, n);
     let bad = below(g, 2);
     let value = times(bad, below(g, 256));
-    store(flags, at, value);
+    store_flag(fixed, at, value);
 }
 
 // What power-on looked at may hold anything later.
-fn change_contents(
-    g: &mut State,
-    kind: usize,
-    page: &mut Page,
-    counts: &mut Bytes,
-    flags: &mut Bytes,
-) {
+fn change_contents(g: &mut State, kind: usize, fixed: &mut Fixed, counts: &mut Bytes) {
     if (kind == 5) | (kind == 15) {
-        fill_random(g, page, 256);
+        fill_random(g, fixed, 256);
     }
     if kind == 14 {
-        change_one(g, counts, flags);
-        change_one(g, counts, flags);
-        change_one(g, counts, flags);
-        change_one(g, counts, flags);
+        change_one(g, counts, fixed);
+        change_one(g, counts, fixed);
+        change_one(g, counts, fixed);
+        change_one(g, counts, fixed);
     }
+}
+
+// A part's first record, its counts and flags as power-on wants them.
+fn first_record(
+    g: &mut State,
+    fixed: &mut Fixed,
+    array: &mut Array,
+    registers: &mut Registers,
+    counts: &mut Bytes,
+) -> Target {
+    mend_counts(counts, g[place::COUNTS_LEN], g[field::PROGRAMS]);
+    mend_flags(fixed, g[place::FLAGS_LEN]);
+    make_page(g, fixed);
+    let p = powered(g, fixed, array, registers, counts);
+    let answer = p.answer;
+    let n = g[place::REGISTERS_LEN];
+    absorb_front(g, registers, n);
+    show(g, b" power ", power_number(answer) as usize, 0, 0, 0);
+    p.target
 }
 
 fn power_up(
     g: &mut State,
     kind: usize,
-    page: &mut Page,
+    fixed: &mut Fixed,
     array: &mut Array,
     registers: &mut Registers,
     counts: &mut Bytes,
-    flags: &mut Bytes,
 ) -> Target {
-    mend(counts, g[place::COUNTS_LEN], g[field::PROGRAMS]);
-    mend(flags, g[place::FLAGS_LEN], 1);
-    make_page(g, page);
-    let p = powered(g, page, array, registers, counts, flags);
-    let answer = p.answer;
-    let n = g[place::REGISTERS_LEN];
-    absorb_front(g, registers, n);
-    show(g, b" power ", power_number(answer) as usize, 0, 0, 0);
-    let t = p.target;
+    let t = first_record(g, fixed, array, registers, counts);
     absorb_blanks(t, g);
     g[place::BUSY] = 0;
     g[place::SELECTED] = 0;
-    change_contents(g, kind, page, counts, flags);
+    change_contents(g, kind, fixed, counts);
     t
 }
 
@@ -103,34 +124,21 @@ fn one_trace(
     g: &mut State,
     kind: usize,
     i: usize,
-    records: &mut Bytes,
-    replies: &mut Bytes,
-    page: &mut Page,
+    fixed: &mut Fixed,
     array: &mut Array,
     registers: &mut Registers,
     counts: &mut Bytes,
-    flags: &mut Bytes,
 ) -> Target {
     let fresh = chance(g, 3) | (i == 0) | (kind == 9);
     g[place::TRACE] = i;
     let n = if fresh {
-        power_up(g, kind, page, array, registers, counts, flags)
+        power_up(g, kind, fixed, array, registers, counts)
     } else {
         t
     };
-    make_trace(g, records, kind, fresh);
-    let n = run_trace(
-        n,
-        g,
-        records,
-        replies,
-        page,
-        array,
-        registers,
-        counts,
-        flags,
-    );
-    absorb_buffers(g, array, registers, counts, flags);
+    make_trace(g, kind, fresh);
+    let n = run_trace(n, g, fixed, array, registers, counts);
+    absorb_buffers(g, fixed, array, registers, counts);
     show(g, b" buffers ", 0, 0, 0, 0);
     n
 }
@@ -139,30 +147,15 @@ fn all_traces(
     g: &mut State,
     kind: usize,
     traces: usize,
-    records: &mut Bytes,
-    replies: &mut Bytes,
-    page: &mut Page,
+    fixed: &mut Fixed,
     array: &mut Array,
     registers: &mut Registers,
     counts: &mut Bytes,
-    flags: &mut Bytes,
 ) {
     let mut t = unpowered();
     let mut i: usize = 0;
     while i < traces {
-        t = one_trace(
-            t,
-            g,
-            kind,
-            i,
-            records,
-            replies,
-            page,
-            array,
-            registers,
-            counts,
-            flags,
-        );
+        t = one_trace(t, g, kind, i, fixed, array, registers, counts);
         i += 1;
     }
 }
@@ -172,31 +165,17 @@ pub fn run_line(
     seed: usize,
     count: usize,
     line: usize,
-    records: &mut Bytes,
-    replies: &mut Bytes,
-    page: &mut Page,
+    fixed: &mut Fixed,
     array: &mut Array,
     registers: &mut Registers,
     counts: &mut Bytes,
-    flags: &mut Bytes,
 ) {
     let kind = line % 17;
-    fill_with(page, 260, 0);
+    fill_with(fixed, 260, 0);
     seed_line(g, seed, line);
     load_part(g, line / 17);
     load_knobs(g, kind);
-    fill_buffers(g, array, registers, counts, flags);
+    fill_buffers(g, fixed, array, registers, counts);
     let traces = times(g[knob::TRACES], count);
-    all_traces(
-        g,
-        kind,
-        traces,
-        records,
-        replies,
-        page,
-        array,
-        registers,
-        counts,
-        flags,
-    );
+    all_traces(g, kind, traces, fixed, array, registers, counts);
 }

@@ -8,11 +8,12 @@ use crate::random::fill_random;
 use crate::random::fill_with;
 use crate::state::Array;
 use crate::state::Bytes;
-use crate::state::Page;
+use crate::state::Fixed;
 use crate::state::Registers;
 use crate::state::State;
 use crate::state::number;
 use crate::state::store;
+use crate::state::store_flag;
 use crate::tables::KnobRow;
 use crate::tables::knob_row;
 use crate::tables::part_row;
@@ -158,21 +159,21 @@ fn optional_bits(g: &mut State) -> usize {
         + high % 512 * 128
 }
 
-fn put_signature(page: &mut Page) {
+fn put_signature(page: &mut Fixed) {
     set(page, 0, 0x4f);
     set(page, 1, 0x4e);
     set(page, 2, 0x46);
     set(page, 3, 0x49);
 }
 
-fn put_bits(g: &mut State, page: &mut Page) {
+fn put_bits(g: &mut State, page: &mut Fixed) {
     let features = feature_bits(g);
     let optional = optional_bits(g);
     put_two(page, 6, features);
     put_two(page, 8, optional);
 }
 
-fn put_sizes(g: &State, page: &mut Page) {
+fn put_sizes(g: &State, page: &mut Fixed) {
     put_four(page, 80, g[field::DATA]);
     put_two(page, 84, g[field::SPARE]);
     put_four(page, 92, g[field::PAGES]);
@@ -182,7 +183,7 @@ fn put_sizes(g: &State, page: &mut Page) {
     set(page, 110, g[field::PROGRAMS]);
 }
 
-pub fn make_page(g: &mut State, page: &mut Page) {
+pub fn make_page(g: &mut State, page: &mut Fixed) {
     fill_random(g, page, 260);
     put_signature(page);
     put_bits(g, page);
@@ -218,21 +219,21 @@ fn fill_counts(g: &mut State, counts: &mut Bytes) {
     }
 }
 
-fn fill_flags(g: &mut State, flags: &mut Bytes) {
+fn fill_flags(g: &mut State, fixed: &mut Fixed) {
     let n = number(g, place::FLAGS_LEN);
     let mut i: usize = 0;
     while i < n {
-        store(flags, i, first_flag(g));
+        store_flag(fixed, i, first_flag(g));
         i += 1;
     }
 }
 
 pub fn fill_buffers(
     g: &mut State,
+    fixed: &mut Fixed,
     array: &mut Array,
     registers: &mut Registers,
     counts: &mut Bytes,
-    flags: &mut Bytes,
 ) {
     let n = g[place::ARRAY_LEN];
     fill_with(array, n, 255);
@@ -242,5 +243,5 @@ pub fn fill_buffers(
     let n = g[place::REGISTERS_LEN];
     fill_random(g, registers, n);
     fill_counts(g, counts);
-    fill_flags(g, flags);
+    fill_flags(g, fixed);
 }

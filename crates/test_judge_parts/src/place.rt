@@ -41,4 +41,5 @@ pub const REFUSED: usize = 48;
 // accepted events by kind
 pub const ACCEPTED: usize = 74;
 
+// where the trace begins
 pub const NUMBERS: usize = 80;

@@ -4,13 +4,15 @@ use test_kit::numbers::add;
 use test_kit::numbers::byte;
 use test_kit::numbers::wide;
 
-// The generator's numbers, by the places of `place`, `field` and `knob`.
-pub type State = [usize; 80];
+// The generator's numbers, by the places of `place`, `field` and `knob`, and behind them the bytes of the trace that it makes:
+// one buffer for both, since each `&mut` that a call is given makes its proof longer.
+pub type State = [usize; 8272];
 
-// Records, replies, counts and flags; a page; an array; registers.
+// A trace, replies or counts.
 pub type Bytes = [u8; 8192];
 
-pub type Page = [u8; 260];
+// What no event changes: the parameter page, and from place 260 on the flags.
+pub type Fixed = [u8; 8452];
 
 pub type Array = [u8; 131072];
 
@@ -24,6 +26,33 @@ pub fn fetch(s: &Bytes, i: usize) -> usize {
 pub fn store(s: &mut Bytes, i: usize, n: usize) {
     if i < 8192 {
         s[i] = byte(n);
+    }
+}
+
+// A flag.
+pub fn store_flag(fixed: &mut Fixed, i: usize, n: usize) {
+    if i < 8192 {
+        fixed[260 + i] = byte(n);
+    }
+}
+
+// The same of the trace that is made.
+pub fn byte_at(g: &State, i: usize) -> usize {
+    if i < 8192 { g[place::NUMBERS + i] } else { 0 }
+}
+
+pub fn put_byte(g: &mut State, i: usize, n: usize) {
+    if i < 8192 {
+        g[place::NUMBERS + i] = n % 256;
+    }
+}
+
+// The trace as bytes.
+pub fn give_trace(g: &State, to: &mut Bytes) {
+    let mut i: usize = 0;
+    while i < 8192 {
+        to[i] = byte(byte_at(g, i));
+        i += 1;
     }
 }
 

@@ -2,6 +2,7 @@
 use power::Powered;
 use power::power_number;
 use slices::part_of;
+use step::Stepped;
 use target::Event;
 use target::Output;
 use target::Target;
@@ -18,15 +19,15 @@ use test_judge_parts::random::absorb;
 use test_judge_parts::random::absorb_bytes;
 use test_judge_parts::random::absorb_front;
 use test_judge_parts::random::below;
-use test_judge_parts::random::fill_with;
 use test_judge_parts::random::sometimes;
 use test_judge_parts::show::show;
 use test_judge_parts::state::Array;
 use test_judge_parts::state::Bytes;
-use test_judge_parts::state::Page;
+use test_judge_parts::state::Fixed;
 use test_judge_parts::state::Registers;
 use test_judge_parts::state::State;
 use test_judge_parts::state::fetch;
+use test_judge_parts::state::give_trace;
 use test_judge_parts::state::one_more;
 use test_judge_spoils::follow_geometry;
 use test_judge_spoils::is_legal;
@@ -45,6 +46,7 @@ use test_lent::Lengths;
 use test_lent::lent_power;
 use test_lent::lent_run;
 use test_lent::lent_step;
+use trace::Ran;
 use trace::run_number;
 use unread::Source;
 use unread::unread_part;
@@ -60,6 +62,11 @@ fn lengths(g: &State) -> Lengths {
     }
 }
 
+// The flags of a part: they lie behind its page.
+fn flags_of(fixed: &[u8]) -> &[u8] {
+    part_of(fixed, 260, 8192)
+}
+
 fn tally(g: &mut State, kind: usize, reply: usize) {
     one_more(g, place::EVENTS);
     if (reply / 256 == 2) & (reply % 256 < 26) {
@@ -70,29 +77,25 @@ fn tally(g: &mut State, kind: usize, reply: usize) {
     }
 }
 
-// The reply to record number `i` of a batch of `bytes` bytes from `at` on.
-fn tally_reply(g: &mut State, records: &[u8], at: usize, bytes: usize, replies: &Bytes, i: usize) {
+// The reply to record number `i` of a batch, which begins at byte `at` of its trace.
+fn tally_reply(g: &mut State, these: &[u8], at: usize, replies: &Bytes, i: usize) {
     let from = times(i, 2);
-    let here = add(at, from);
-    let kind = get(records, here);
+    let kind = get(these, from);
     let reply = add(
         times(fetch(replies, from), 256),
         fetch(replies, add(from, 1)),
     );
     tally(g, kind, reply);
-    if add(from, 1) < bytes {
-        let value = get(records, add(here, 1));
-        show(g, b" record ", here / 2, kind, value, reply);
-    } else {
-        show(g, b" record ", here / 2, kind, 0, reply);
-    }
+    // past the end there is 0, as behind an odd byte
+    let value = get(these, add(from, 1));
+    show(g, b" record ", add(at, from) / 2, kind, value, reply);
 }
 
-fn tally_replies(g: &mut State, records: &[u8], at: usize, bytes: usize, replies: &Bytes) {
-    let n = bytes / 2 + bytes % 2;
+fn tally_replies(g: &mut State, these: &[u8], at: usize, replies: &Bytes) {
+    let n = these.len() / 2 + these.len() % 2;
     let mut i: usize = 0;
     while i < n {
-        tally_reply(g, records, at, bytes, replies, i);
+        tally_reply(g, these, at, replies, i);
         i += 1;
     }
 }
@@ -105,34 +108,48 @@ fn short_room(g: &mut State, need: usize) -> usize {
     }
 }
 
-// A batch with too little room, and its answer.
-fn run_short(
+// A batch, lent what the state says, with this room for replies.
+fn run_lent(
     t: Target,
-    g: &mut State,
-    at: usize,
-    records: &[u8],
-    need: usize,
+    g: &State,
+    these: &[u8],
     replies: &mut Bytes,
-    page: &Page,
+    room: usize,
+    fixed: &Fixed,
     array: &mut Array,
     registers: &mut Registers,
     counts: &mut Bytes,
-    flags: &Bytes,
-) -> Target {
-    let room = short_room(g, need);
-    let ran = lent_run(
+) -> Ran {
+    lent_run(
         t,
         lengths(g),
-        records,
-        records.len(),
+        these,
+        these.len(),
         replies,
         room,
-        page,
+        fixed,
         array,
         registers,
         counts,
-        flags,
-    );
+        flags_of(fixed),
+    )
+}
+
+// A batch with too little room, and its answer. Four reply bytes past the room needed are digested too, here and below.
+fn run_short(
+    t: Target,
+    g: &mut State,
+    these: &[u8],
+    at: usize,
+    need: usize,
+    replies: &mut Bytes,
+    fixed: &Fixed,
+    array: &mut Array,
+    registers: &mut Registers,
+    counts: &mut Bytes,
+) -> Target {
+    let room = short_room(g, need);
+    let ran = run_lent(t, g, these, replies, room, fixed, array, registers, counts);
     let answer = ran.answer;
     let r = run_number(answer) as usize;
     absorb(g, r);
@@ -144,60 +161,93 @@ fn run_short(
     ran.target
 }
 
-// Runs 'bytes' bytes from 'at' on; where the knob says so, first with too little room. Four reply bytes past the room needed
-// are digested too.
+// A batch with room enough, and its replies.
+fn run_whole(
+    t: Target,
+    g: &mut State,
+    these: &[u8],
+    at: usize,
+    need: usize,
+    replies: &mut Bytes,
+    fixed: &Fixed,
+    array: &mut Array,
+    registers: &mut Registers,
+    counts: &mut Bytes,
+) -> Target {
+    let room = add(need, below(g, 5));
+    let ran = run_lent(t, g, these, replies, room, fixed, array, registers, counts);
+    let answer = ran.answer;
+    absorb(g, run_number(answer) as usize);
+    absorb_front(g, replies, add(need, 4));
+    tally_replies(g, these, at, replies);
+    ran.target
+}
+
+// Runs 'bytes' bytes from 'at' on; where the knob says so, first with too little room.
 fn run_batch(
     t: Target,
     g: &mut State,
     records: &[u8],
     at: usize,
     bytes: usize,
-    replies: &mut Bytes,
-    page: &Page,
+    fixed: &Fixed,
     array: &mut Array,
     registers: &mut Registers,
     counts: &mut Bytes,
-    flags: &Bytes,
 ) -> Target {
     let need = times(bytes / 2 + bytes % 2, 2);
     let these = part_of(records, at, bytes);
-    fill_with(replies, add(need, 4), 238);
+    let mut replies = [238u8; 8192];
     let n = if sometimes(g, knob::SHORT) {
         run_short(
             t,
             g,
-            at,
             these,
+            at,
             need,
-            replies,
-            page,
+            &mut replies,
+            fixed,
             array,
             registers,
             counts,
-            flags,
         )
     } else {
         t
     };
-    let more = below(g, 5);
-    let ran = lent_run(
+    run_whole(
         n,
-        lengths(g),
+        g,
         these,
-        these.len(),
-        replies,
-        add(need, more),
-        page,
+        at,
+        need,
+        &mut replies,
+        fixed,
         array,
         registers,
         counts,
-        flags,
-    );
-    let answer = ran.answer;
-    absorb(g, run_number(answer) as usize);
-    absorb_front(g, replies, add(need, 4));
-    tally_replies(g, records, at, bytes, replies);
-    ran.target
+    )
+}
+
+// One event, lent what the state says: the record after it and its reply.
+fn step_lent(
+    t: Target,
+    g: &State,
+    e: Event,
+    fixed: &Fixed,
+    array: &mut Array,
+    registers: &mut Registers,
+    counts: &mut Bytes,
+) -> Stepped {
+    lent_step(
+        t,
+        lengths(g),
+        e,
+        fixed,
+        array,
+        registers,
+        counts,
+        flags_of(fixed),
+    )
 }
 
 // One record by the call for one event.
@@ -206,11 +256,10 @@ fn run_single(
     g: &mut State,
     records: &[u8],
     at: usize,
-    page: &Page,
+    fixed: &Fixed,
     array: &mut Array,
     registers: &mut Registers,
     counts: &mut Bytes,
-    flags: &Bytes,
 ) -> Target {
     let kind = get(records, at);
     let value = get(records, add(at, 1));
@@ -218,7 +267,7 @@ fn run_single(
         kind: byte(kind),
         value: byte(value),
     };
-    let s = lent_step(t, lengths(g), e, page, array, registers, counts, flags);
+    let s = step_lent(t, g, e, fixed, array, registers, counts);
     let r = s.reply;
     let reply = reply_first(r) as usize * 256 + reply_second(r) as usize;
     absorb(g, reply);
@@ -323,32 +372,18 @@ fn run_copy(
     what: usize,
     kind: u8,
     value: u8,
-    replies: &mut Bytes,
-    page: &Page,
+    fixed: &Fixed,
     array: &mut Array,
     registers: &mut Registers,
     counts: &mut Bytes,
-    flags: &Bytes,
 ) {
     let records = [kind, value, 0u8];
     let due = if is_legal(what) { g[61] } else { add(g[61], 1) };
-    let c = run_single(c, g, &records, 0, page, array, registers, counts, flags);
+    let c = run_single(c, g, &records, 0, fixed, array, registers, counts);
     if !(g[61] == due) {
         one_more(g, place::SURPRISES);
     }
-    let c = run_batch(
-        c,
-        g,
-        &records,
-        0,
-        3,
-        replies,
-        page,
-        array,
-        registers,
-        counts,
-        flags,
-    );
+    let c = run_batch(c, g, &records, 0, 3, fixed, array, registers, counts);
     absorb_blanks(c, g);
 }
 
@@ -356,12 +391,10 @@ fn run_copy(
 fn run_spoiled(
     t: Target,
     g: &mut State,
-    replies: &mut Bytes,
-    page: &Page,
+    fixed: &Fixed,
     array: &mut Array,
     registers: &mut Registers,
     counts: &mut Bytes,
-    flags: &Bytes,
 ) {
     let what = pick_spoil(g);
     let follow = below(g, 2);
@@ -373,20 +406,8 @@ fn run_spoiled(
     if (follow == 1) & (1 <= what) & (what <= 8) {
         follow_geometry(c, g);
     }
-    absorb_rest(c, g, page, registers);
-    run_copy(
-        c,
-        g,
-        what,
-        kind,
-        value,
-        replies,
-        page,
-        array,
-        registers,
-        counts,
-        flags,
-    );
+    absorb_rest(c, g, fixed, registers);
+    run_copy(c, g, what, kind, value, fixed, array, registers, counts);
     measure(g);
 }
 
@@ -403,65 +424,69 @@ fn lie_blank(t: Target, g: &mut State) -> Target {
     with_blank(t, lun, number)
 }
 
-// One batch of a trace, at byte 'at', and what is looked at after it.
+// How many bytes of the trace the next batch has; at times an odd one more.
+fn batch_bytes(g: &mut State, at: usize, step: usize) -> usize {
+    let bytes = at_most(step, sub(g[place::LEN], at));
+    if add(at, bytes) < g[place::LEN] {
+        if sometimes(g, knob::ODD) {
+            return add(bytes, 1);
+        }
+    }
+    bytes
+}
+
+// One batch of a trace, at byte 'at'; with a step of one record, its event.
+fn run_next(
+    t: Target,
+    g: &mut State,
+    records: &Bytes,
+    at: usize,
+    step: usize,
+    fixed: &Fixed,
+    array: &mut Array,
+    registers: &mut Registers,
+    counts: &mut Bytes,
+) -> Target {
+    let bytes = batch_bytes(g, at, step);
+    if step == 2 {
+        run_single(t, g, records, at, fixed, array, registers, counts)
+    } else {
+        run_batch(t, g, records, at, bytes, fixed, array, registers, counts)
+    }
+}
+
+// One batch of a trace, and what is looked at after it.
 fn run_some(
     t: Target,
     g: &mut State,
     records: &Bytes,
     at: usize,
     step: usize,
-    replies: &mut Bytes,
-    page: &Page,
+    fixed: &Fixed,
     array: &mut Array,
     registers: &mut Registers,
     counts: &mut Bytes,
-    flags: &Bytes,
 ) -> Target {
-    let bytes = at_most(step, sub(g[place::LEN], at));
-    let mut odd: usize = 0;
-    if add(at, bytes) < g[place::LEN] {
-        if sometimes(g, knob::ODD) {
-            odd = 1;
-        }
-    }
-    let n = if step == 2 {
-        run_single(t, g, records, at, page, array, registers, counts, flags)
-    } else {
-        run_batch(
-            t,
-            g,
-            records,
-            at,
-            add(bytes, odd),
-            replies,
-            page,
-            array,
-            registers,
-            counts,
-            flags,
-        )
-    };
-    absorb_rest(n, g, page, registers);
+    let n = run_next(t, g, records, at, step, fixed, array, registers, counts);
+    absorb_rest(n, g, fixed, registers);
     absorb_record(n, g);
     if sometimes(g, knob::SPOIL) {
-        run_spoiled(n, g, replies, page, array, registers, counts, flags);
+        run_spoiled(n, g, fixed, array, registers, counts);
         lie_blank(n, g)
     } else {
         n
     }
 }
 
-// Batches of 'step' bytes; with a step of one record, event by event.
-pub fn run_trace(
+// A trace in batches of 'step' bytes; with a step of one record, event by event.
+fn run_records(
     t: Target,
     g: &mut State,
     records: &Bytes,
-    replies: &mut Bytes,
-    page: &Page,
+    fixed: &Fixed,
     array: &mut Array,
     registers: &mut Registers,
     counts: &mut Bytes,
-    flags: &Bytes,
 ) -> Target {
     let longest = g[knob::STEP];
     let step = add(2, times(2, below(g, longest)));
@@ -475,16 +500,28 @@ pub fn run_trace(
             records,
             times(i, step),
             step,
-            replies,
-            page,
+            fixed,
             array,
             registers,
             counts,
-            flags,
         );
         i += 1;
     }
     n
+}
+
+// Runs the trace that was made.
+pub fn run_trace(
+    t: Target,
+    g: &mut State,
+    fixed: &Fixed,
+    array: &mut Array,
+    registers: &mut Registers,
+    counts: &mut Bytes,
+) -> Target {
+    let mut records = [0u8; 8192];
+    give_trace(g, &mut records);
+    run_records(t, g, &records, fixed, array, registers, counts)
 }
 
 // How many steps a length takes.
@@ -499,7 +536,13 @@ fn batches(len: usize, step: usize) -> usize {
     }
 }
 
-pub fn absorb_buffers(g: &mut State, array: &[u8], registers: &[u8], counts: &[u8], flags: &[u8]) {
+pub fn absorb_buffers(
+    g: &mut State,
+    fixed: &Fixed,
+    array: &Array,
+    registers: &Registers,
+    counts: &Bytes,
+) {
     let n = g[place::ARRAY_LEN];
     absorb_front(g, array, n);
     let n = g[place::REGISTERS_LEN];
@@ -507,26 +550,25 @@ pub fn absorb_buffers(g: &mut State, array: &[u8], registers: &[u8], counts: &[u
     let n = g[place::COUNTS_LEN];
     absorb_front(g, counts, n);
     let n = g[place::FLAGS_LEN];
-    absorb_front(g, flags, n);
+    absorb_front(g, flags_of(fixed), n);
 }
 
-// Power-on as lent; its answer is digested and shown.
+// Power-on as lent; its answer is digested.
 pub fn powered(
     g: &mut State,
-    page: &Page,
+    fixed: &Fixed,
     array: &Array,
     registers: &mut Registers,
     counts: &Bytes,
-    flags: &Bytes,
 ) -> Powered {
     let p = lent_power(
         lengths(g),
         byte(g[place::DEVICE]),
-        page,
+        fixed,
         array,
         registers,
         counts,
-        flags,
+        flags_of(fixed),
     );
     let answer = p.answer;
     absorb(g, power_number(answer) as usize);

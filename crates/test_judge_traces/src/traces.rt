@@ -10,10 +10,9 @@ use test_judge_parts::knob;
 use test_judge_parts::place;
 use test_judge_parts::random::below;
 use test_judge_parts::random::sometimes;
-use test_judge_parts::state::Bytes;
 use test_judge_parts::state::State;
-use test_judge_parts::state::fetch;
-use test_judge_parts::state::store;
+use test_judge_parts::state::byte_at;
+use test_judge_parts::state::put_byte;
 use test_kit::numbers::add;
 use test_kit::numbers::get;
 use test_kit::numbers::sub;
@@ -130,173 +129,173 @@ fn near_value(g: &mut State, kind: usize) -> usize {
 }
 
 // One record that looks like an event.
-fn near_record(g: &mut State, records: &mut Bytes) {
+fn near_record(g: &mut State) {
     let kind = near_kind(below(g, 32));
     if kind == 6 {
-        put_bad(g, records);
+        put_bad(g);
     } else {
         let value = near_value(g, kind);
-        put(g, records, kind, value);
+        put(g, kind, value);
     }
 }
 
-fn noise_record(g: &mut State, records: &mut Bytes) {
+fn noise_record(g: &mut State) {
     let kind = below(g, 7);
     let value = below(g, 256);
     if kind == 6 {
         let other = below(g, 256);
-        put(g, records, other, value);
+        put(g, other, value);
     } else {
-        put(g, records, kind, value);
+        put(g, kind, value);
     }
 }
 
 // The last record moves to place 'at', the others make room.
-fn move_back(g: &State, records: &mut Bytes, at: usize) {
+fn move_back(g: &mut State, at: usize) {
     let end = g[place::LEN];
-    let kind = fetch(records, sub(end, 2));
-    let value = fetch(records, sub(end, 1));
+    let kind = byte_at(g, sub(end, 2));
+    let value = byte_at(g, sub(end, 1));
     let first = add(at, 2);
     let mut i = end;
     while first < i {
         i -= 1;
-        let moved = fetch(records, sub(i, 2));
-        store(records, i, moved);
+        let moved = byte_at(g, sub(i, 2));
+        put_byte(g, i, moved);
     }
-    store(records, at, kind);
-    store(records, add(at, 1), value);
+    put_byte(g, at, kind);
+    put_byte(g, add(at, 1), value);
 }
 
-fn remove_record(g: &mut State, records: &mut Bytes, at: usize) {
+fn remove_record(g: &mut State, at: usize) {
     let end = sub(g[place::LEN], 2);
     g[place::LEN] = end;
     let mut i = at;
     while i < end {
-        let moved = fetch(records, add(i, 2));
-        store(records, i, moved);
+        let moved = byte_at(g, add(i, 2));
+        put_byte(g, i, moved);
         i += 1;
     }
 }
 
-fn other_command(g: &mut State, records: &mut Bytes, at: usize) {
-    store(records, at, 0);
+fn other_command(g: &mut State, at: usize) {
+    put_byte(g, at, 0);
     let value = near_command(g);
-    store(records, add(at, 1), value);
+    put_byte(g, add(at, 1), value);
 }
 
-fn one_more_record(g: &mut State, records: &mut Bytes, at: usize) {
-    near_record(g, records);
-    move_back(g, records, at);
+fn one_more_record(g: &mut State, at: usize) {
+    near_record(g);
+    move_back(g, at);
 }
 
-fn same_again(g: &mut State, records: &mut Bytes, at: usize) {
-    let kind = fetch(records, at);
-    let value = fetch(records, add(at, 1));
-    put(g, records, kind, value);
-    move_back(g, records, at);
+fn same_again(g: &mut State, at: usize) {
+    let kind = byte_at(g, at);
+    let value = byte_at(g, add(at, 1));
+    put(g, kind, value);
+    move_back(g, at);
 }
 
 // Puts a wrong cycle at byte 'at'.
-fn wrong_at(g: &mut State, records: &mut Bytes, at: usize) {
+fn wrong_at(g: &mut State, at: usize) {
     match below(g, 6) {
         0 => {
             let value = below(g, 256);
-            store(records, add(at, 1), value)
+            put_byte(g, add(at, 1), value)
         }
-        1 => other_command(g, records, at),
-        2 => remove_record(g, records, at),
-        3 => one_more_record(g, records, at),
+        1 => other_command(g, at),
+        2 => remove_record(g, at),
+        3 => one_more_record(g, at),
         4 => {
             let kind = below(g, 4);
-            store(records, at, kind)
+            put_byte(g, at, kind)
         }
-        _ => same_again(g, records, at),
+        _ => same_again(g, at),
     }
 }
 
 // One wrong cycle in the job that began at byte 'from'.
-fn make_wrong(g: &mut State, records: &mut Bytes, from: usize) {
+fn make_wrong(g: &mut State, from: usize) {
     let n = sub(g[place::LEN], from) / 2;
     if (n == 0) | (8190 < g[place::LEN]) {
         return;
     }
     let at = add(from, times(2, below(g, n)));
-    wrong_at(g, records, at);
+    wrong_at(g, at);
 }
 
-pub fn one_job(g: &mut State, records: &mut Bytes, job: usize) {
+pub fn one_job(g: &mut State, job: usize) {
     match job {
-        5..=13 => other_job(g, records, job),
-        20..=23 => poll_job(g, records, job),
-        _ => data_job(g, records, job),
+        5..=13 => other_job(g, job),
+        20..=23 => poll_job(g, job),
+        _ => data_job(g, job),
     }
 }
 
-fn put_job(g: &mut State, records: &mut Bytes, kind: usize) {
+fn put_job(g: &mut State, kind: usize) {
     let from = g[place::LEN];
     let job = mix(kind, below(g, 26));
-    one_job(g, records, job);
+    one_job(g, job);
     if sometimes(g, knob::WRONG) {
-        make_wrong(g, records, from);
+        make_wrong(g, from);
     }
 }
 
 // Kind 7 is near noise, 8 noise, the others jobs.
-fn put_some(g: &mut State, records: &mut Bytes, kind: usize) {
+fn put_some(g: &mut State, kind: usize) {
     match kind {
-        7 => near_record(g, records),
-        8 => noise_record(g, records),
-        _ => put_job(g, records, kind),
+        7 => near_record(g),
+        8 => noise_record(g),
+        _ => put_job(g, kind),
     }
 }
 
 // Until there are as many as the knob says; the number of turns only ends the loop, and is never met.
-fn put_all(g: &mut State, records: &mut Bytes, kind: usize) {
+fn put_all(g: &mut State, kind: usize) {
     let end = times(g[knob::RECORDS], 2);
     let mut turns: usize = 0;
     while turns < 1000000 {
         if end <= g[place::LEN] {
             return;
         }
-        put_some(g, records, kind);
+        put_some(g, kind);
         turns += 1;
     }
 }
 
 // A record before the first FFh, which is none itself.
-fn put_early_record(g: &mut State, records: &mut Bytes) {
+fn put_early_record(g: &mut State) {
     let at = g[place::LEN];
-    near_record(g, records);
-    if (fetch(records, at) == 0) & (fetch(records, add(at, 1)) == 255) {
+    near_record(g);
+    if (byte_at(g, at) == 0) & (byte_at(g, add(at, 1)) == 255) {
         let kind = add(1, below(g, 2));
-        store(records, at, kind);
+        put_byte(g, at, kind);
     }
 }
 
 // Before the first FFh: cycles of every kind, FFh only as address or data.
-fn put_early(g: &mut State, records: &mut Bytes) {
+fn put_early(g: &mut State) {
     let n = add(4, below(g, 24));
     let mut i: usize = 0;
     while i < n {
-        put_early_record(g, records);
+        put_early_record(g);
         i += 1;
     }
-    put(g, records, 1, 255);
-    put(g, records, 2, 255);
+    put(g, 1, 255);
+    put(g, 2, 255);
     let level = below(g, 2);
-    put(g, records, 5, level);
-    put_reset(g, records);
-    put(g, records, 5, 1);
+    put(g, 5, level);
+    put_reset(g);
+    put(g, 5, 1);
 }
 
-pub fn make_trace(g: &mut State, records: &mut Bytes, kind: usize, fresh: bool) {
+pub fn make_trace(g: &mut State, kind: usize, fresh: bool) {
     g[place::LEN] = 0;
     if kind == 9 {
-        put_early(g, records);
+        put_early(g);
     } else {
         if fresh {
-            put_reset(g, records);
+            put_reset(g);
         }
     }
-    put_all(g, records, kind);
+    put_all(g, kind);
 }

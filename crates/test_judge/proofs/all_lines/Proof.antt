@@ -6,10 +6,10 @@ use Rattle.test_judge.proofs.all_lines.Statement.{statement}
 use Rattle.test_judge.proofs.all_lines.Tie as tie
 
 abbrev Inv-loop : tie.InvT-loop
-Inv-loop shown seed count first end total₀ records₀ replies₀ page₀ array₀ registers₀ counts₀ flags₀ line₀ total records replies page array registers counts flags line = Unit {0}
+Inv-loop shown seed count first end total₀ fixed₀ array₀ registers₀ counts₀ line₀ total fixed array registers counts line = Unit {0}
 
 abbrev μ-loop : tie.MeasureT-loop
-μ-loop shown seed count first end total₀ records₀ replies₀ page₀ array₀ registers₀ counts₀ flags₀ line₀ total records replies page array registers counts flags line = end - line
+μ-loop shown seed count first end total₀ fixed₀ array₀ registers₀ counts₀ line₀ total fixed array registers counts line = end - line
 
 loop-holds : tie.Need-loop-holds Inv-loop μ-loop
 loop-holds c = tt

@@ -6,10 +6,10 @@ use Rattle.test_judge_jobs.proofs.give_data.Statement.{statement}
 use Rattle.test_judge_jobs.proofs.give_data.Tie as tie
 
 abbrev Inv-loop : tie.InvT-loop
-Inv-loop g₀ records₀ column n i₀ g records i = Unit {0}
+Inv-loop g₀ column n i₀ g i = Unit {0}
 
 abbrev μ-loop : tie.MeasureT-loop
-μ-loop g₀ records₀ column n i₀ g records i = n - i
+μ-loop g₀ column n i₀ g i = n - i
 
 pick-length-requires : tie.Need-pick-length-requires Inv-loop μ-loop
 pick-length-requires c κs = tt

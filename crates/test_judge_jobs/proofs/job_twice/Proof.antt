@@ -7,10 +7,10 @@ use Rattle.test_judge_jobs.proofs.job_twice.Statement.{statement}
 use Rattle.test_judge_jobs.proofs.job_twice.Tie as tie
 
 abbrev Inv-loop : tie.InvT-loop
-Inv-loop g₀ records₀ lun row most n i₀ g records i = Unit {0}
+Inv-loop g₀ lun row most n i₀ g i = Unit {0}
 
 abbrev μ-loop : tie.MeasureT-loop
-μ-loop g₀ records₀ lun row most n i₀ g records i = n - i
+μ-loop g₀ lun row most n i₀ g i = n - i
 
 pick-lun-requires : tie.Need-pick-lun-requires Inv-loop μ-loop
 pick-lun-requires c κs = tt

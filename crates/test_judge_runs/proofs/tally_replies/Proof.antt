@@ -7,10 +7,10 @@ use Rattle.test_judge_runs.proofs.tally_replies.Statement.{statement}
 use Rattle.test_judge_runs.proofs.tally_replies.Tie as tie
 
 abbrev Inv-loop : tie.InvT-loop
-Inv-loop g₀ records at bytes replies n i₀ g i = Unit {0}
+Inv-loop g₀ these at replies n i₀ g i = Unit {0}
 
 abbrev μ-loop : tie.MeasureT-loop
-μ-loop g₀ records at bytes replies n i₀ g i = n - i
+μ-loop g₀ these at replies n i₀ g i = n - i
 
 add-n : tie.Need-add-n Inv-loop μ-loop
 add-n c = search needs

@@ -6,10 +6,10 @@ use Rattle.test_judge_lines.proofs.cases.every_job.Statement.{statement
 use Rattle.test_judge_lines.proofs.cases.every_job.Tie as tie
 
 abbrev Inv-loop : tie.InvT-loop
-Inv-loop g₀ records₀ job₀ g records job = Unit {0}
+Inv-loop g₀ job₀ g job = Unit {0}
 
 abbrev μ-loop : tie.MeasureT-loop
-μ-loop g₀ records₀ job₀ g records job = 25 - job
+μ-loop g₀ job₀ g job = 25 - job
 
 loop-holds : tie.Need-loop-holds Inv-loop μ-loop
 loop-holds c = tt

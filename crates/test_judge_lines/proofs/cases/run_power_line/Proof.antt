@@ -6,10 +6,10 @@ use Rattle.test_judge_lines.proofs.cases.run_power_line.Statement.{stat
 use Rattle.test_judge_lines.proofs.cases.run_power_line.Tie as tie
 
 abbrev Inv-loop : tie.InvT-loop
-Inv-loop g₀ seed count line records₀ replies₀ page₀ array₀ registers₀ counts₀ flags₀ kind n i₀ g records replies page array registers counts flags i = Unit {0}
+Inv-loop g₀ seed count line fixed₀ array₀ registers₀ counts₀ kind n i₀ g fixed array registers counts i = Unit {0}
 
 abbrev μ-loop : tie.MeasureT-loop
-μ-loop g₀ seed count line records₀ replies₀ page₀ array₀ registers₀ counts₀ flags₀ kind n i₀ g records replies page array registers counts flags i = n - i
+μ-loop g₀ seed count line fixed₀ array₀ registers₀ counts₀ kind n i₀ g fixed array registers counts i = n - i
 
 fill-with-requires : tie.Need-fill-with-requires Inv-loop μ-loop
 fill-with-requires c κs = tt

@@ -6,10 +6,10 @@ use Rattle.test_judge_lines.proofs.lines.all_traces.Statement.{statemen
 use Rattle.test_judge_lines.proofs.lines.all_traces.Tie as tie
 
 abbrev Inv-loop : tie.InvT-loop
-Inv-loop g₀ kind traces records₀ replies₀ page₀ array₀ registers₀ counts₀ flags₀ t₀ i₀ g records replies page array registers counts flags t i = Unit {0}
+Inv-loop g₀ kind traces fixed₀ array₀ registers₀ counts₀ t₀ i₀ g fixed array registers counts t i = Unit {0}
 
 abbrev μ-loop : tie.MeasureT-loop
-μ-loop g₀ kind traces records₀ replies₀ page₀ array₀ registers₀ counts₀ flags₀ t₀ i₀ g records replies page array registers counts flags t i = traces - i
+μ-loop g₀ kind traces fixed₀ array₀ registers₀ counts₀ t₀ i₀ g fixed array registers counts t i = traces - i
 
 unpowered-requires : tie.Need-unpowered-requires Inv-loop μ-loop
 unpowered-requires c κs = tt
@@ -22,7 +22,7 @@ one-trace-requires c κs = tt
 
 add-i : tie.Need-add-i Inv-loop μ-loop
 add-i c =
-    let start = c .before .before .before .before .before .before .before .before .before .before .before .before in
+    let start = c .before .before .before .before .before .before .before .before .before in
     omega (arith, start .fits)
 
 loop-less : tie.Need-loop-less Inv-loop μ-loop

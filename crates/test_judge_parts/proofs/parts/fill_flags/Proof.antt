@@ -6,10 +6,10 @@ use Rattle.test_judge_parts.proofs.parts.fill_flags.Statement.{statemen
 use Rattle.test_judge_parts.proofs.parts.fill_flags.Tie as tie
 
 abbrev Inv-loop : tie.InvT-loop
-Inv-loop g₀ flags₀ n i₀ g flags i = Unit {0}
+Inv-loop g₀ fixed₀ n i₀ g fixed i = Unit {0}
 
 abbrev μ-loop : tie.MeasureT-loop
-μ-loop g₀ flags₀ n i₀ g flags i = n - i
+μ-loop g₀ fixed₀ n i₀ g fixed i = n - i
 
 number-requires : tie.Need-number-requires Inv-loop μ-loop
 number-requires c κs = tt
@@ -20,8 +20,8 @@ loop-holds c = tt
 first-flag-requires : tie.Need-first-flag-requires Inv-loop μ-loop
 first-flag-requires c κs = tt
 
-store-requires : tie.Need-store-requires Inv-loop μ-loop
-store-requires c κs = tt
+store-flag-requires : tie.Need-store-flag-requires Inv-loop μ-loop
+store-flag-requires c κs = tt
 
 add-i : tie.Need-add-i Inv-loop μ-loop
 add-i c = omega arith
@@ -44,7 +44,7 @@ fill-flags-spec =
     number-requires
     loop-holds
     first-flag-requires
-    store-requires
+    store-flag-requires
     add-i
     loop-less
     loop-again

@@ -7,10 +7,10 @@ use Rattle.test_judge_traces.proofs.traces.move_back.Statement.{stateme
 use Rattle.test_judge_traces.proofs.traces.move_back.Tie as tie
 
 abbrev Inv-loop : tie.InvT-loop
-Inv-loop g records₀ at end kind value first i₀ records i = Unit {0}
+Inv-loop g₀ at end kind value first i₀ g i = Unit {0}
 
 abbrev μ-loop : tie.MeasureT-loop
-μ-loop g records₀ at end kind value first i₀ records i = i - first
+μ-loop g₀ at end kind value first i₀ g i = i - first
 
 element-copy-out-end : tie.Need-element-copy-out-end Inv-loop μ-loop
 element-copy-out-end c = search needs
@@ -18,14 +18,14 @@ element-copy-out-end c = search needs
 sub-requires : tie.Need-sub-requires Inv-loop μ-loop
 sub-requires c κs = tt
 
-fetch-requires : tie.Need-fetch-requires Inv-loop μ-loop
-fetch-requires c κs = tt
+byte-at-requires : tie.Need-byte-at-requires Inv-loop μ-loop
+byte-at-requires c κs = tt
 
 sub-requires-2 : tie.Need-sub-requires-2 Inv-loop μ-loop
 sub-requires-2 c κs = tt
 
-fetch-requires-2 : tie.Need-fetch-requires-2 Inv-loop μ-loop
-fetch-requires-2 c κs = tt
+byte-at-requires-2 : tie.Need-byte-at-requires-2 Inv-loop μ-loop
+byte-at-requires-2 c κs = tt
 
 add-requires : tie.Need-add-requires Inv-loop μ-loop
 add-requires c κs = tt
@@ -39,11 +39,11 @@ sub-i c = search needs
 sub-requires-3 : tie.Need-sub-requires-3 Inv-loop μ-loop
 sub-requires-3 c κs = tt
 
-fetch-requires-3 : tie.Need-fetch-requires-3 Inv-loop μ-loop
-fetch-requires-3 c κs = tt
+byte-at-requires-3 : tie.Need-byte-at-requires-3 Inv-loop μ-loop
+byte-at-requires-3 c κs = tt
 
-store-requires : tie.Need-store-requires Inv-loop μ-loop
-store-requires c κs = tt
+put-byte-requires : tie.Need-put-byte-requires Inv-loop μ-loop
+put-byte-requires c κs = tt
 
 loop-less : tie.Need-loop-less Inv-loop μ-loop
 loop-less c = omega arith
@@ -51,14 +51,14 @@ loop-less c = omega arith
 loop-again : tie.Need-loop-again Inv-loop μ-loop
 loop-again c = tt
 
-store-requires-2 : tie.Need-store-requires-2 Inv-loop μ-loop
-store-requires-2 c κs = tt
+put-byte-requires-2 : tie.Need-put-byte-requires-2 Inv-loop μ-loop
+put-byte-requires-2 c κs = tt
 
 add-requires-2 : tie.Need-add-requires-2 Inv-loop μ-loop
 add-requires-2 c κs = tt
 
-store-requires-3 : tie.Need-store-requires-3 Inv-loop μ-loop
-store-requires-3 c κs = tt
+put-byte-requires-3 : tie.Need-put-byte-requires-3 Inv-loop μ-loop
+put-byte-requires-3 c κs = tt
 
 returns : tie.Need-returns Inv-loop μ-loop
 returns c = tt
@@ -71,18 +71,18 @@ move-back-spec =
     μ-loop
     element-copy-out-end
     sub-requires
-    fetch-requires
+    byte-at-requires
     sub-requires-2
-    fetch-requires-2
+    byte-at-requires-2
     add-requires
     loop-holds
     sub-i
     sub-requires-3
-    fetch-requires-3
-    store-requires
+    byte-at-requires-3
+    put-byte-requires
     loop-less
     loop-again
-    store-requires-2
+    put-byte-requires-2
     add-requires-2
-    store-requires-3
+    put-byte-requires-3
     returns)

@@ -7,10 +7,10 @@ use Rattle.test_judge_traces.proofs.traces.put_all.Statement.{statement
 use Rattle.test_judge_traces.proofs.traces.put_all.Tie as tie
 
 abbrev Inv-loop : tie.InvT-loop
-Inv-loop g₀ records₀ kind end turns₀ g records turns = Unit {0}
+Inv-loop g₀ kind end turns₀ g turns = Unit {0}
 
 abbrev μ-loop : tie.MeasureT-loop
-μ-loop g₀ records₀ kind end turns₀ g records turns = 1000000 - turns
+μ-loop g₀ kind end turns₀ g turns = 1000000 - turns
 
 element-copy-out-times : tie.Need-element-copy-out-times Inv-loop μ-loop
 element-copy-out-times c = search needs

@@ -6,10 +6,10 @@ use Rattle.test_judge_traces.proofs.traces.put_early.Statement.{stateme
 use Rattle.test_judge_traces.proofs.traces.put_early.Tie as tie
 
 abbrev Inv-loop : tie.InvT-loop
-Inv-loop g₀ records₀ n i₀ g records i = Unit {0}
+Inv-loop g₀ n i₀ g i = Unit {0}
 
 abbrev μ-loop : tie.MeasureT-loop
-μ-loop g₀ records₀ n i₀ g records i = n - i
+μ-loop g₀ n i₀ g i = n - i
 
 below-requires : tie.Need-below-requires Inv-loop μ-loop
 below-requires c κs = tt

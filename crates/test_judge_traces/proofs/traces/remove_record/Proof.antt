@@ -7,10 +7,10 @@ use Rattle.test_judge_traces.proofs.traces.remove_record.Statement.{sta
 use Rattle.test_judge_traces.proofs.traces.remove_record.Tie as tie
 
 abbrev Inv-loop : tie.InvT-loop
-Inv-loop g records₀ at end i₀ records i = Unit {0}
+Inv-loop g₀ at end i₀ g i = Unit {0}
 
 abbrev μ-loop : tie.MeasureT-loop
-μ-loop g records₀ at end i₀ records i = end - i
+μ-loop g₀ at end i₀ g i = end - i
 
 element-copy-out-sub : tie.Need-element-copy-out-sub Inv-loop μ-loop
 element-copy-out-sub c = search needs
@@ -27,11 +27,11 @@ loop-holds c = tt
 add-requires : tie.Need-add-requires Inv-loop μ-loop
 add-requires c κs = tt
 
-fetch-requires : tie.Need-fetch-requires Inv-loop μ-loop
-fetch-requires c κs = tt
+byte-at-requires : tie.Need-byte-at-requires Inv-loop μ-loop
+byte-at-requires c κs = tt
 
-store-requires : tie.Need-store-requires Inv-loop μ-loop
-store-requires c κs = tt
+put-byte-requires : tie.Need-put-byte-requires Inv-loop μ-loop
+put-byte-requires c κs = tt
 
 add-i : tie.Need-add-i Inv-loop μ-loop
 add-i c = omega arith
@@ -56,8 +56,8 @@ remove-record-spec =
     element-write-g
     loop-holds
     add-requires
-    fetch-requires
-    store-requires
+    byte-at-requires
+    put-byte-requires
     add-i
     loop-less
     loop-again

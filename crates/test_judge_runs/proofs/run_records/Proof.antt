@@ -1,16 +1,16 @@
--- `test_judge_runs::run_trace` is safe and ends.
+-- `test_judge_runs::run_records` is safe and ends.
 -- Assumes nothing.
 use borrow.Author.Needs.{needs}
 use Prim.Native.Nat.{_-_}
 use native.Mathlib.Omega.{arith}
-use Rattle.test_judge_runs.proofs.run_trace.Statement.{statement}
-use Rattle.test_judge_runs.proofs.run_trace.Tie as tie
+use Rattle.test_judge_runs.proofs.run_records.Statement.{statement}
+use Rattle.test_judge_runs.proofs.run_records.Tie as tie
 
 abbrev Inv-loop : tie.InvT-loop
-Inv-loop g₀ records replies₀ page array₀ registers₀ counts₀ flags longest step batches n₀ i₀ g replies array registers counts n i = Unit {0}
+Inv-loop g₀ records fixed array₀ registers₀ counts₀ longest step batches n₀ i₀ g array registers counts n i = Unit {0}
 
 abbrev μ-loop : tie.MeasureT-loop
-μ-loop g₀ records replies₀ page array₀ registers₀ counts₀ flags longest step batches n₀ i₀ g replies array registers counts n i = batches - i
+μ-loop g₀ records fixed array₀ registers₀ counts₀ longest step batches n₀ i₀ g array registers counts n i = batches - i
 
 element-copy-out-longest : tie.Need-element-copy-out-longest Inv-loop μ-loop
 element-copy-out-longest c = search needs
@@ -51,8 +51,8 @@ loop-again c = tt
 returns : tie.Need-returns Inv-loop μ-loop
 returns c = tt
 
-pub run-trace-spec : {M : Type 1} → statement M
-run-trace-spec =
+pub run-records-spec : {M : Type 1} → statement M
+run-records-spec =
     tie.close
     (tie.spec
     Inv-loop

@@ -1,15 +1,15 @@
--- `test_judge_lines::lines::mend` is safe and ends.
+-- `test_judge_lines::lines::mend_counts` is safe and ends.
 -- Assumes nothing.
 use Prim.Native.Nat.{_-_}
 use native.Mathlib.Omega.{arith}
-use Rattle.test_judge_lines.proofs.lines.mend.Statement.{statement}
-use Rattle.test_judge_lines.proofs.lines.mend.Tie as tie
+use Rattle.test_judge_lines.proofs.lines.mend_counts.Statement.{statement}
+use Rattle.test_judge_lines.proofs.lines.mend_counts.Tie as tie
 
 abbrev Inv-loop : tie.InvT-loop
-Inv-loop s₀ n most i₀ s i = Unit {0}
+Inv-loop counts₀ n most i₀ counts i = Unit {0}
 
 abbrev μ-loop : tie.MeasureT-loop
-μ-loop s₀ n most i₀ s i = n - i
+μ-loop counts₀ n most i₀ counts i = n - i
 
 loop-holds : tie.Need-loop-holds Inv-loop μ-loop
 loop-holds c = tt
@@ -35,8 +35,8 @@ loop-again c = tt
 returns : tie.Need-returns Inv-loop μ-loop
 returns c = tt
 
-pub mend-spec : {M : Type 1} → statement M
-mend-spec =
+pub mend-counts-spec : {M : Type 1} → statement M
+mend-counts-spec =
     tie.close
     (tie.spec
     Inv-loop
