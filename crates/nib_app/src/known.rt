@@ -3,7 +3,6 @@ use libc::STDERR_FILENO;
 use libc::STDOUT_FILENO;
 use nib_args::is_word;
 use nib_print::pen::Paper;
-use nib_print::pen::Pen;
 use nib_print::pen::begin;
 use nib_print::pen::end_line;
 use nib_print::pen::flush;
@@ -31,63 +30,24 @@ pub fn too_large(name: &[u8]) {
     );
 }
 
-fn large_parts(out: &mut Paper, p: Pen) -> Pen {
-    let p = text(
-        out,
-        p,
-        b"MT29F32G08ABAAAWP    8192+448 bytes, 128 pages, 4096 blocks, 1 LUN, array 4529848320 bytes, device ID 68h\n",
-    );
-    let p = text(
-        out,
-        p,
-        b"MT29F64G08AFAAAWP    8192+448 bytes, 128 pages, 4096 blocks, 1 LUN, array 4529848320 bytes, device ID 68h\n",
-    );
-    let p = text(
-        out,
-        p,
-        b"MT29F128G08AJAAAWP   8192+448 bytes, 128 pages, 4096 blocks, 2 LUNs, array 9059696640 bytes, device ID 88h\n",
-    );
-    let p = text(
-        out,
-        p,
-        b"MT29F128G08AKAAAC5   8192+448 bytes, 128 pages, 4096 blocks, 2 LUNs, array 9059696640 bytes, device ID 88h\n",
-    );
-    let p = text(
-        out,
-        p,
-        b"MT29F128G08AMAAAC5   8192+448 bytes, 128 pages, 4096 blocks, 1 LUN, array 4529848320 bytes, device ID 68h\n",
-    );
-    text(
-        out,
-        p,
-        b"MT29F256G08AUAAAC5   8192+448 bytes, 128 pages, 4096 blocks, 2 LUNs, array 9059696640 bytes, device ID 88h\n",
-    )
-}
-
 // `nib parts`.
 pub fn show_parts(out: &mut Paper) {
     let p = begin(STDOUT_FILENO);
     let p = text(
         out,
         p,
-        b"T1                   512+16 bytes, 4 pages, 8 blocks, 2 LUNs, array 33792 bytes, device ID 68h\n",
+        b"\
+        T1                   512+16 bytes, 4 pages, 8 blocks, 2 LUNs, array 33792 bytes, device ID 68h\n\
+        T2                   512+16 bytes, 3 pages, 5 blocks, 2 LUNs, array 15840 bytes, device ID 68h\n\
+        W                    512+16 bytes, 4 pages, 8 blocks, 2 LUNs, array 33792 bytes, device ID 68h\n\
+        more than nib holds, and made by python3 -m nibtoggle new:\n\
+        MT29F32G08ABAAAWP    8192+448 bytes, 128 pages, 4096 blocks, 1 LUN, array 4529848320 bytes, device ID 68h\n\
+        MT29F64G08AFAAAWP    8192+448 bytes, 128 pages, 4096 blocks, 1 LUN, array 4529848320 bytes, device ID 68h\n\
+        MT29F128G08AJAAAWP   8192+448 bytes, 128 pages, 4096 blocks, 2 LUNs, array 9059696640 bytes, device ID 88h\n\
+        MT29F128G08AKAAAC5   8192+448 bytes, 128 pages, 4096 blocks, 2 LUNs, array 9059696640 bytes, device ID 88h\n\
+        MT29F128G08AMAAAC5   8192+448 bytes, 128 pages, 4096 blocks, 1 LUN, array 4529848320 bytes, device ID 68h\n\
+        MT29F256G08AUAAAC5   8192+448 bytes, 128 pages, 4096 blocks, 2 LUNs, array 9059696640 bytes, device ID 88h\n",
     );
-    let p = text(
-        out,
-        p,
-        b"T2                   512+16 bytes, 3 pages, 5 blocks, 2 LUNs, array 15840 bytes, device ID 68h\n",
-    );
-    let p = text(
-        out,
-        p,
-        b"W                    512+16 bytes, 4 pages, 8 blocks, 2 LUNs, array 33792 bytes, device ID 68h\n",
-    );
-    let p = text(
-        out,
-        p,
-        b"more than nib holds, and made by python3 -m nibtoggle new:\n",
-    );
-    let p = large_parts(out, p);
     flush(out, p);
 }
 

@@ -8,7 +8,6 @@ use known::show_parts;
 use known::show_version;
 use known::too_large;
 use nib_args::Asked;
-use nib_args::May;
 use nib_args::allowed;
 use nib_args::asked_of;
 use nib_args::is_word;
@@ -19,6 +18,7 @@ use nib_files::part::Counts;
 use nib_files::part::Flags;
 use nib_files::part::Page;
 use nib_files::part::Part;
+use nib_files::part::Registers;
 use nib_files::part::T1_ID;
 use nib_files::part::make;
 use nib_files::part::no_part;
@@ -34,7 +34,6 @@ use nib_look::diff::diff;
 use nib_look::dump::dump;
 use nib_page::pages::show_page;
 use nib_print::pen::Paper;
-use nib_print::pen::Pen;
 use nib_print::pen::begin;
 use nib_print::pen::count;
 use nib_print::pen::flush;
@@ -46,84 +45,31 @@ use nib_translate::texts::from_text;
 use nib_translate::texts::to_text;
 ghost use Rattle.io.specs.Counts.{Counts as Counted};
 
-fn usage_files(out: &mut Paper, p: Pen) -> Pen {
-    let p = text(
-        out,
-        p,
-        b"  nib new DIR [PART]         makes a part folder: part T1, one of `parts`, or the part of a page in a file\n",
-    );
-    let p = text(
-        out,
-        p,
-        b"  nib parts                  the parts that have a name\n",
-    );
-    let p = text(
-        out,
-        p,
-        b"  nib run DIR < TRACE        replies on standard output; the folder is brought up to date\n",
-    );
-    let p = text(
-        out,
-        p,
-        b"  nib explain [-v] DIR < TRACE  the same in words; with -v each event on a line; the folder stays as it is\n",
-    );
-    let p = text(
-        out,
-        p,
-        b"  nib dump DIR LUN BLOCK PAGE   a page of the array; the folder stays as it is\n",
-    );
-    let p = text(
-        out,
-        p,
-        b"  nib diff DIR DIR           where two parts differ; status 3 if they do\n",
-    );
-    let p = text(
-        out,
-        p,
-        b"  nib test DIR < TEXT        runs a text and what it expects, as: = 3c a5  ! 5  ok; stored if all held, status 3 if not\n",
-    );
-    let p = text(
-        out,
-        p,
-        b"  nib page FILE or DIR       what a parameter page says, and power-on's answer; of a folder its blank blocks too\n",
-    );
-    text(
-        out,
-        p,
-        b"  nib check FILE             which rules a part's answer to ECh breaks: 768 bytes, its page three times\n",
-    )
-}
-
-fn usage_texts(out: &mut Paper, p: Pen) -> Pen {
-    let p = text(
-        out,
-        p,
-        b"  nib text < TEXT > TRACE    a trace from text, as: c 80  a 00 00 37 00 00  d 3c  o 16  f 1  p 0\n",
-    );
-    let p = text(
-        out,
-        p,
-        b"  nib text DIR < TEXT        with whole jobs too, on the folder's part, as: program 1 5 3 0 3c a5  f 1  erase 1 5\n",
-    );
-    let p = text(out, p, b"  nib text -d < TRACE        a trace as text\n");
-    let p = text(
-        out,
-        p,
-        b"  nib jobs [DIR] < TRACE     a trace told as whole jobs; with DIR by LUN, block and page of its part\n",
-    );
-    let p = text(out, p, b"  nib version                the version\n");
-    text(out, p, b"  nib help                   these lines\n")
-}
-
 fn usage(fd: i32, out: &mut Paper) {
     let p = begin(fd);
     let p = text(
         out,
         p,
-        b"  nib demo                   two stations save at once, told in words; needs no file\n",
+        b"\
+        \x20 nib demo                   two stations save at once, told in words; needs no file\n\
+        \x20 nib new DIR [PART]         makes a part folder: part T1, one of `parts`, or the part of a page in a file\n\
+        \x20 nib parts                  the parts that have a name\n\
+        \x20 nib run DIR < TRACE        replies on standard output; the folder is brought up to date\n\
+        \x20 nib explain [-v] DIR < TRACE  the same in words; with -v each event on a line; the folder stays as it is\n\
+        \x20 nib dump DIR LUN BLOCK PAGE   a page of the array; the folder stays as it is\n\
+        \x20 nib diff DIR DIR           where two parts differ; status 3 if they do\n\
+        \x20 nib test DIR < TEXT        runs a text and what it expects, as: = 3c a5  ! 5  ok;\
+        \x20stored if all held, status 3 if not\n\
+        \x20 nib page FILE or DIR       what a parameter page says, and power-on's answer; of a folder its blank blocks too\n\
+        \x20 nib check FILE             which rules a part's answer to ECh breaks: 768 bytes, its page three times\n\
+        \x20 nib text < TEXT > TRACE    a trace from text, as: c 80  a 00 00 37 00 00  d 3c  o 16  f 1  p 0\n\
+        \x20 nib text DIR < TEXT        with whole jobs too, on the folder's part, as: program 1 5 3 0\
+        \x203c a5  f 1  erase 1 5\n\
+        \x20 nib text -d < TRACE        a trace as text\n\
+        \x20 nib jobs [DIR] < TRACE     a trace told as whole jobs; with DIR by LUN, block and page of its part\n\
+        \x20 nib version                the version\n\
+        \x20 nib help                   these lines\n",
     );
-    let p = usage_files(out, p);
-    let p = usage_texts(out, p);
     flush(out, p);
 }
 
@@ -147,23 +93,231 @@ fn part_of(name: &[u8], page: &mut Page) -> Part {
     read_page(name, page)
 }
 
-fn make_new(
-    dir: &[u8],
-    may: May,
-    page: &Page,
-    part: Part,
-    array: &Array,
-    counts: &Counts,
-    flags: &Flags,
-    out: &mut Paper,
-) {
-    if part.good & may.make {
-        make(dir, page, part, array, counts, flags, out);
+// What a command works on. A function with few calls is proved faster than one with many, so each has its own.
+enum Work {
+    // no part: a text, an answer to ECh, or what nib says of itself
+    NoPart,
+    // a part folder that is made
+    Make,
+    // a folder that a trace is run on
+    Run,
+    Test,
+    // what is looked at: a folder, two of them, or a page
+    Look,
+    // a trace told as jobs
+    Jobs,
+    Demo,
+}
+
+fn work_of(asked: Asked) -> Work {
+    match asked {
+        Asked::Demo => Work::Demo,
+        Asked::New => Work::Make,
+        Asked::NewFrom => Work::Make,
+        Asked::Run => Work::Run,
+        Asked::Explain => Work::Run,
+        Asked::ExplainEach => Work::Run,
+        Asked::Test => Work::Test,
+        Asked::Dump => Work::Look,
+        Asked::Diff => Work::Look,
+        Asked::Text => Work::NoPart,
+        Asked::TextOn => Work::NoPart,
+        Asked::Back => Work::NoPart,
+        Asked::Jobs => Work::Jobs,
+        Asked::JobsOn => Work::Jobs,
+        Asked::Page => Work::Look,
+        Asked::Check => Work::NoPart,
+        Asked::Parts => Work::NoPart,
+        Asked::Version => Work::NoPart,
+        Asked::Help => Work::NoPart,
+        Asked::Wrong => Work::NoPart,
     }
 }
 
-// The commands that have a part, or need as much room. Its buffers stand here alone, and this is called in one place, since the stack has no room for
-// two sets.
+// The part of a new folder. A page does not say its part's device ID: it is 0 until the folder's owner puts another.
+fn new_part(asked: Asked, third: &[u8], page: &mut Page) -> Part {
+    match asked {
+        Asked::NewFrom => part_of(third, page),
+        _ => planned(b"T1", page, T1_ID),
+    }
+}
+
+// `new`.
+fn make_new(
+    asked: Asked,
+    second: &[u8],
+    third: &[u8],
+    out: &mut Paper,
+    page: &mut Page,
+    array: &Array,
+    counts: &Counts,
+    flags: &Flags,
+) {
+    let may = allowed(asked);
+    let part = new_part(asked, third, page);
+    if part.good & may.make {
+        make(second, page, part, array, counts, flags, out);
+    }
+}
+
+// `run` and `explain`.
+fn run_part(
+    asked: Asked,
+    second: &[u8],
+    third: &[u8],
+    input: i32,
+    out: &mut Paper,
+    page: &mut Page,
+    array: &mut Array,
+    registers: &mut Registers,
+    counts: &mut Counts,
+    flags: &mut Flags,
+) {
+    let may = allowed(asked);
+    match asked {
+        Asked::Run => on_folder(
+            second,
+            may,
+            Telling::Replies,
+            input,
+            out,
+            page,
+            array,
+            registers,
+            counts,
+            flags,
+        ),
+        Asked::ExplainEach => on_folder(
+            third,
+            may,
+            Telling::Each,
+            input,
+            out,
+            page,
+            array,
+            registers,
+            counts,
+            flags,
+        ),
+        _ => on_folder(
+            second,
+            may,
+            Telling::Folded,
+            input,
+            out,
+            page,
+            array,
+            registers,
+            counts,
+            flags,
+        ),
+    }
+}
+
+// `dump`, `diff` and `page`.
+fn look_at_part(
+    asked: Asked,
+    second: &[u8],
+    third: &[u8],
+    fourth: &[u8],
+    fifth: &[u8],
+    out: &mut Paper,
+    page: &mut Page,
+    array: &mut Array,
+    registers: &mut Registers,
+    counts: &mut Counts,
+    flags: &mut Flags,
+) {
+    match asked {
+        Asked::Dump => dump(
+            second,
+            third,
+            fourth,
+            fifth,
+            out,
+            page,
+            array,
+            counts,
+            flags,
+        ),
+        Asked::Diff => diff(second, third, out, page, array, counts, flags),
+        _ => show_page(second, out, page, array, registers, counts, flags),
+    }
+}
+
+// `jobs`. The trace stands where a part's array would.
+fn jobs_of(asked: Asked, second: &[u8], input: i32, out: &mut Paper, array: &mut Array) {
+    match asked {
+        Asked::JobsOn => {
+            let part = shape_of(second);
+            if part.good {
+                tell_jobs(part, input, array, out);
+            }
+        }
+        _ => tell_jobs(no_shape(), input, array, out),
+    }
+}
+
+// The commands that have a part, or need as much room, over its buffers.
+fn with_part(
+    asked: Asked,
+    second: &[u8],
+    third: &[u8],
+    fourth: &[u8],
+    fifth: &[u8],
+    input: i32,
+    out: &mut Paper,
+    page: &mut Page,
+    array: &mut Array,
+    registers: &mut Registers,
+    counts: &mut Counts,
+    flags: &mut Flags,
+) {
+    match work_of(asked) {
+        Work::NoPart => {}
+        Work::Make => make_new(asked, second, third, out, page, array, counts, flags),
+        Work::Run => run_part(
+            asked,
+            second,
+            third,
+            input,
+            out,
+            page,
+            array,
+            registers,
+            counts,
+            flags,
+        ),
+        Work::Test => test_folder(
+            second,
+            allowed(asked),
+            input,
+            out,
+            page,
+            array,
+            registers,
+            counts,
+            flags,
+        ),
+        Work::Look => look_at_part(
+            asked,
+            second,
+            third,
+            fourth,
+            fifth,
+            out,
+            page,
+            array,
+            registers,
+            counts,
+            flags,
+        ),
+        Work::Jobs => jobs_of(asked, second, input, out, array),
+        Work::Demo => tell(out, page, array, registers, counts, flags),
+    }
+}
+
+// The buffers of a part stand here alone, and this is called in one place, since the stack has no room for two sets.
 fn on_part(
     asked: Asked,
     second: &[u8],
@@ -173,146 +327,30 @@ fn on_part(
     input: i32,
     out: &mut Paper,
 ) {
-    let may = allowed(asked);
     let mut page = t1();
     let mut array = [0xffu8; 4194304];
     let mut registers = [0u8; 73728];
     let mut counts = [0u8; 262144];
     let mut flags = [0u8; 16384];
-    match asked {
-        Asked::Demo => tell(out, &page, &mut array, &mut registers, &mut counts, &flags),
-        Asked::New => {
-            let part = planned(b"T1", &page, T1_ID);
-            make_new(second, may, &page, part, &array, &counts, &flags, out)
-        }
-        // a page does not say its part's device ID: it is 0 until the folder's owner puts another
-        Asked::NewFrom => {
-            let part = part_of(third, &mut page);
-            make_new(second, may, &page, part, &array, &counts, &flags, out)
-        }
-        Asked::Run => on_folder(
-            second,
-            may,
-            Telling::Replies,
-            input,
-            out,
-            &mut page,
-            &mut array,
-            &mut registers,
-            &mut counts,
-            &mut flags,
-        ),
-        Asked::Explain => on_folder(
-            second,
-            may,
-            Telling::Folded,
-            input,
-            out,
-            &mut page,
-            &mut array,
-            &mut registers,
-            &mut counts,
-            &mut flags,
-        ),
-        Asked::ExplainEach => on_folder(
-            third,
-            may,
-            Telling::Each,
-            input,
-            out,
-            &mut page,
-            &mut array,
-            &mut registers,
-            &mut counts,
-            &mut flags,
-        ),
-        Asked::Test => test_folder(
-            second,
-            may,
-            input,
-            out,
-            &mut page,
-            &mut array,
-            &mut registers,
-            &mut counts,
-            &mut flags,
-        ),
-        Asked::Dump => dump(
-            second,
-            third,
-            fourth,
-            fifth,
-            out,
-            &mut page,
-            &mut array,
-            &mut counts,
-            &mut flags,
-        ),
-        Asked::Diff => diff(
-            second,
-            third,
-            out,
-            &mut page,
-            &mut array,
-            &mut counts,
-            &mut flags,
-        ),
-        Asked::Text => {}
-        Asked::TextOn => {}
-        Asked::Back => {}
-        // the trace stands where a part's array would
-        Asked::Jobs => tell_jobs(no_shape(), input, &mut array, out),
-        Asked::JobsOn => {
-            let part = shape_of(second);
-            if part.good {
-                tell_jobs(part, input, &mut array, out);
-            }
-        }
-        Asked::Page => show_page(
-            second,
-            out,
-            &mut page,
-            &mut array,
-            &mut registers,
-            &mut counts,
-            &mut flags,
-        ),
-        Asked::Check => {}
-        Asked::Parts => {}
-        Asked::Version => {}
-        Asked::Help => {}
-        Asked::Wrong => {}
-    }
+    with_part(
+        asked,
+        second,
+        third,
+        fourth,
+        fifth,
+        input,
+        out,
+        &mut page,
+        &mut array,
+        &mut registers,
+        &mut counts,
+        &mut flags,
+    )
 }
 
 fn wrong(out: &mut Paper) {
     io::write_all(libc::STDERR_FILENO, b"nib: no such call; these are:\n");
     usage(libc::STDERR_FILENO, out);
-}
-
-fn has_part(asked: Asked) -> bool {
-    match asked {
-        Asked::Demo => true,
-        Asked::New => true,
-        Asked::NewFrom => true,
-        Asked::Run => true,
-        Asked::Explain => true,
-        Asked::ExplainEach => true,
-        Asked::Test => true,
-        Asked::Dump => true,
-        Asked::Diff => true,
-        Asked::Text => false,
-        Asked::TextOn => false,
-        Asked::Back => false,
-        Asked::Jobs => true,
-        Asked::JobsOn => true,
-        Asked::Page => true,
-        Asked::Check => false,
-        Asked::Parts => false,
-        Asked::Version => false,
-        Asked::Help => false,
-        Asked::Wrong => false,
-    }
 }
 
 // `nib text DIR`.
@@ -325,26 +363,14 @@ fn text_on(dir: &[u8], input: i32, out: &mut Paper) {
 
 fn without_part(asked: Asked, second: &[u8], input: i32, out: &mut Paper) {
     match asked {
-        Asked::Demo => {}
-        Asked::New => {}
-        Asked::NewFrom => {}
-        Asked::Run => {}
-        Asked::Explain => {}
-        Asked::ExplainEach => {}
-        Asked::Test => {}
-        Asked::Dump => {}
-        Asked::Diff => {}
         Asked::Text => from_text(no_shape(), input, out),
         Asked::TextOn => text_on(second, input, out),
         Asked::Back => to_text(input, out),
-        Asked::Jobs => {}
-        Asked::JobsOn => {}
-        Asked::Page => {}
         Asked::Check => show_check(second, out),
         Asked::Parts => show_parts(out),
         Asked::Version => show_version(out),
         Asked::Help => usage(libc::STDOUT_FILENO, out),
-        Asked::Wrong => wrong(out),
+        _ => wrong(out),
     }
 }
 
@@ -358,10 +384,9 @@ pub fn act(
     input: i32,
     out: &mut Paper,
 ) {
-    if has_part(asked) {
-        on_part(asked, second, third, fourth, fifth, input, out)
-    } else {
-        without_part(asked, second, input, out)
+    match work_of(asked) {
+        Work::NoPart => without_part(asked, second, input, out),
+        _ => on_part(asked, second, third, fourth, fifth, input, out),
     }
 }
 

@@ -177,24 +177,41 @@ fn most_luns(page: &[u8]) -> usize {
     if bit_of(features(page), 1) { 4 } else { 1 }
 }
 
-// Field by field, and what power-on would answer.
-fn fields(out: &mut Paper, p: Pen, page: &[u8]) -> Pen {
+// What the page is, and what its part can do.
+fn first_fields(out: &mut Paper, p: Pen, page: &[u8]) -> Pen {
     let p = within(out, p, b"length", page.len(), 256, 256);
     let p = lettered(out, p, b"signature", page, 0, 4);
     let p = feature_words(out, p, page);
-    let p = optional_words(out, p, page);
+    optional_words(out, p, page)
+}
+
+fn maker_fields(out: &mut Paper, p: Pen, page: &[u8]) -> Pen {
     let p = lettered(out, p, b"maker", page, 32, 44);
     let p = lettered(out, p, b"model", page, 44, 64);
-    let p = maker_words(out, p, page);
+    maker_words(out, p, page)
+}
+
+fn size_fields(out: &mut Paper, p: Pen, page: &[u8]) -> Pen {
     let p = within(out, p, b"data bytes", data_bytes(page), 16, 16384);
     let p = within(out, p, b"spare bytes", spare_bytes(page), 0, 2048);
     let p = within(out, p, b"pages a block", pages_a_block(page), 1, 256);
     let p = within(out, p, b"blocks a LUN", blocks_a_lun(page), 1, 4096);
-    let p = within(out, p, b"LUNs", lun_count(page), 1, most_luns(page));
+    within(out, p, b"LUNs", lun_count(page), 1, most_luns(page))
+}
+
+fn last_fields(out: &mut Paper, p: Pen, page: &[u8]) -> Pen {
     let p = cycle_words(out, p, page);
     let p = within(out, p, b"programs a page", programs_a_page(page), 1, 8);
     let p = crc_words(out, p, page);
     power_words(out, p, page)
+}
+
+// Field by field, and what power-on would answer.
+fn fields(out: &mut Paper, p: Pen, page: &[u8]) -> Pen {
+    let p = first_fields(out, p, page);
+    let p = maker_fields(out, p, page);
+    let p = size_fields(out, p, page);
+    last_fields(out, p, page)
 }
 
 fn shown(page: &Page, out: &mut Paper) {

@@ -29,17 +29,25 @@ use test_pages_powers::powers::flagged;
 use test_pages_powers::powers::small;
 
 // A maker's page.
-fn show_fields(page: &[u8]) {
+fn show_kind(page: &[u8]) {
     flagged(b" signed ", is_signed(page));
     flagged(b" good ", crc_good(page));
     labelled(b" features ", features(page) as usize);
     labelled(b" optional ", optional_commands(page) as usize);
     small(b" maker ", maker_id(page));
+}
+
+fn show_sizes(page: &[u8]) {
     labelled(b" data ", data_bytes(page));
     labelled(b" spare ", spare_bytes(page));
     labelled(b" pages ", pages_a_block(page));
     labelled(b" blocks ", blocks_a_lun(page));
     labelled(b" luns ", lun_count(page));
+}
+
+fn show_fields(page: &[u8]) {
+    show_kind(page);
+    show_sizes(page);
     small(b" cycles ", address_cycles(page));
     labelled(b" programs ", programs_a_page(page));
     flagged(b" limits ", fields_in_limits(page));

@@ -155,10 +155,15 @@ fn table(text: &Text, size: usize, n: &mut Numbers) {
     }
 }
 
-fn summary(n: &Numbers) {
+// What was read.
+fn read_summary(n: &Numbers) {
     labelled(b"states ", n[place::STATES]);
     labelled(b"\ncells ", n[place::CELLS]);
     labelled(b"\ncases ", n[place::CASES]);
+}
+
+// What was compared.
+fn compared_summary(n: &Numbers) {
     labelled(b"\npower-ons compared ", n[place::POWERS]);
     labelled(b"\nbyte traces compared ", n[place::RUNS]);
     labelled(b"\nreplies compared ", n[place::REPLIES]);
@@ -166,6 +171,10 @@ fn summary(n: &Numbers) {
         b"\nbytes of array, registers, counts and reply rooms compared ",
         n[place::BYTES],
     );
+}
+
+// What was found.
+fn found_summary(n: &Numbers) {
     labelled(b"\nrefused cells found to change no byte ", n[place::KEPT]);
     labelled(
         b"\nexpectations wrong on purpose and found so ",
@@ -173,6 +182,12 @@ fn summary(n: &Numbers) {
     );
     labelled(b"\nmismatches ", n[place::MISMATCHES]);
     text(b"\n");
+}
+
+fn summary(n: &Numbers) {
+    read_summary(n);
+    compared_summary(n);
+    found_summary(n);
 }
 
 fn main() {
