@@ -1,88 +1,121 @@
--- Two lists that agree on a stretch: what a part, a splice and a store within the stretch make of them.
---     parts-alike      a part within it
---     splices-alike    the same bytes spliced in within it
---     getD-alike       an element of it
---     set-splice       a store is a splice of one
---     pieces-ext       lists of as many pieces, with equal pieces, are equal
+-- Two lists with the same bytes in one stretch: what is read, spliced in or stored within the stretch is the same in both.
+--     parts-alike      a part that lies within it
+--     splices-alike    the stretch after a splice within it
+--     getD-alike       a byte of it
+--     set-splice       a store is a splice of one byte
+--     pieces-ext       lists cut into pieces of one size are equal where the pieces are
 -- Assumes nothing.
 use mathlib.Core.Path.{_≡_, refl, sym, ap, _∙_}
 use mathlib.Core.List.{List, [], _∷_, _++_}
 use Prim.Native.Nat.{ℕ, zero, suc, _+_, _-_, _*_, _≤_, _<_}
-use native.Mathlib.Nat.{le-refl, suc-mul, zero-mul}
-use native.Mathlib.Numerals.{add-one}
+use native.Mathlib.Nat.{suc-mul, zero-mul}
 use native.Mathlib.Omega.{arith}
-use lib.ListN.{length, take, drop, getD, set}
-use lib.Seq.{take-take, take-add, take-all, drop-drop, set-split, getD-take, getD-drop}
+use lib.ListN.{length, take, drop, getD, set, length-drop, take-append-drop}
+use lib.Seq.{take-take, drop-drop}
 use Rattle.slices.specs.Cells.{splice, part}
-use Rattle.slices.proofs.Splice.{part-splice, part-before, part-after}
 
-take-drop-take : (i m n : ℕ) (xs : List ℕ) → i + m ≤ n → take m (drop i (take n xs)) ≡ take m (drop i xs)
-take-drop-take zero m n xs h = take-take m n xs (omega arith)
-take-drop-take (suc i) m zero xs h = absurd (omega arith)
-take-drop-take (suc i) m (suc n) [] h = refl
-take-drop-take (suc i) m (suc n) (x ∷ xs) h = take-drop-take i m n xs (omega arith)
+-- bytes that lie within the first k
+among-first : (xs : List ℕ) (i m k : ℕ) → i + m ≤ k → take m (drop i xs) ≡ take m (drop i (take k xs))
+among-first xs zero m k within = sym (take-take m k xs (omega arith))
+among-first [] (suc i) m zero within = refl
+among-first [] (suc i) m (suc k) within = refl
+among-first (x ∷ xs) (suc i) m zero within = absurd (omega arith)
+among-first (x ∷ xs) (suc i) m (suc k) within = among-first xs i m k (omega arith)
 
--- a part of a part
-inner : (xs : List ℕ) (b n i m : ℕ) → i + m ≤ n → part (part xs b n) i m ≡ part xs (b + i) m
+-- a part within a stretch is a part of the stretch
+of-stretch : (xs : List ℕ) (b k i m : ℕ) → i + m ≤ k → part xs (b + i) m ≡ part (part xs b k) i m
 unfolding part
-inner xs b n i m h = take-drop-take i m n (drop b xs) h ∙ ap (take m) (drop-drop i b xs)
+of-stretch xs b k i m within = ap (take m) (sym (drop-drop i b xs)) ∙ among-first (drop b xs) i m k within
 
--- two parts that meet
-joined : (xs : List ℕ) (b m n : ℕ) → part xs b (m + n) ≡ part xs b m ++ part xs (b + m) n
+pub parts-alike : (xs ys : List ℕ) (b k : ℕ) → part xs b k ≡ part ys b k → (at m : ℕ) → b ≤ at → at + m ≤ b + k → part xs at m ≡ part ys at m
+parts-alike xs ys b k agree at m low high =
+    let there : b + (at - b) ≡ at = omega arith in
+    let within : at - b + m ≤ k = omega arith in
+    rw (← there)
+    (of-stretch xs b k (at - b) m within
+    ∙ ap (λ (l : List ℕ). part l (at - b) m) agree
+    ∙ sym (of-stretch ys b k (at - b) m within))
+
+-- the first bytes of a list that begins with new ones
+new-first : (new xs : List ℕ) (n k : ℕ) → length new ≡ n → n ≤ length xs → n ≤ k → take k (new ++ drop n xs) ≡ new ++ drop n (take k xs)
+new-first [] xs zero k same fits within = refl
+new-first [] xs (suc n) k same fits within = absurd (omega arith)
+new-first (y ∷ new) xs zero k same fits within = absurd (omega arith)
+new-first (y ∷ new) [] (suc n) k same fits within = absurd (omega arith)
+new-first (y ∷ new) (x ∷ xs) (suc n) zero same fits within = absurd (omega arith)
+new-first (y ∷ new) (x ∷ xs) (suc n) (suc k) same fits within =
+    ap (λ (l : List ℕ). y ∷ l) (new-first new xs n k (omega arith) (omega arith) (omega arith))
+
+-- the first bytes after a splice among them
+first-spliced : (xs : List ℕ) (k i n : ℕ) (new : List ℕ) → i + n ≤ k → i + n ≤ length xs → length new ≡ n → take k (splice xs i n new) ≡ splice (take k xs) i n new
+unfolding splice
+first-spliced xs k zero n new within fits same = new-first new xs n k same (omega arith) (omega arith)
+first-spliced [] k (suc i) n new within fits same = absurd (omega arith)
+first-spliced (x ∷ xs) zero (suc i) n new within fits same = absurd (omega arith)
+first-spliced (x ∷ xs) (suc k) (suc i) n new within fits same =
+    ap (λ (l : List ℕ). x ∷ l) (first-spliced xs k i n new (omega arith) (omega arith) same)
+
+-- a stretch after a splice within it is the stretch, spliced
+stretch-spliced : (xs : List ℕ) (b k at i n : ℕ) (new : List ℕ) → b + i ≡ at → i + n ≤ k → at + n ≤ length xs → length new ≡ n → part (splice xs at n new) b k ≡ splice (part xs b k) i n new
+unfolding part splice
+stretch-spliced xs zero k at i n new there within fits same =
+    let here : at ≡ i = omega arith in
+    rw (here) (first-spliced xs k i n new within (omega arith) same)
+stretch-spliced xs (suc b) k zero i n new there within fits same = absurd (omega arith)
+stretch-spliced [] (suc b) k (suc at) i n new there within fits same = absurd (omega arith)
+stretch-spliced (x ∷ xs) (suc b) k (suc at) i n new there within fits same =
+    stretch-spliced xs b k at i n new (omega arith) within (omega arith) same
+
+pub splices-alike : (xs ys : List ℕ) (b k : ℕ) → part xs b k ≡ part ys b k → (at n : ℕ) (new : List ℕ) → b ≤ at → at + n ≤ b + k → at + n ≤ length xs → at + n ≤ length ys → length new ≡ n → part (splice xs at n new) b k ≡ part (splice ys at n new) b k
+splices-alike xs ys b k agree at n new low high fits fitsʳ same =
+    stretch-spliced xs b k at (at - b) n new (omega arith) (omega arith) fits same
+    ∙ ap (λ (l : List ℕ). splice l (at - b) n new) agree
+    ∙ sym (stretch-spliced ys b k at (at - b) n new (omega arith) (omega arith) fitsʳ same)
+
+-- a byte is the first one of the part that it is
+byte-of-part : (xs : List ℕ) (i : ℕ) → getD (part xs i 1) 0 0 ≡ getD xs i 0
 unfolding part
-joined xs b m n = take-add m n (drop b xs) ∙ ap (λ (l : List ℕ). take m (drop b xs) ++ take n l) (drop-drop m b xs)
+byte-of-part [] zero = refl
+byte-of-part [] (suc i) = refl
+byte-of-part (x ∷ xs) zero = refl
+byte-of-part (x ∷ xs) (suc i) = byte-of-part xs i
 
-getD-part : (xs : List ℕ) (b k i : ℕ) → i < k → getD (part xs b k) i 0 ≡ getD xs (b + i) 0
-unfolding part
-getD-part xs b k i h = getD-take k (drop b xs) i 0 h ∙ getD-drop b xs i 0
-
--- a stretch with new bytes inside it
-spliced : (xs : List ℕ) (b m n r : ℕ) (new : List ℕ) → b + m + n ≤ length xs → length new ≡ n → part (splice xs (b + m) n new) b (m + (n + r)) ≡ part xs b m ++ (new ++ part xs (b + m + n) r)
-spliced xs b m n r new fits same =
-    let z = splice xs (b + m) n new in
-    joined z b m (n + r)
-    ∙ ap (λ (l : List ℕ). l ++ part z (b + m) (n + r)) (part-before xs (b + m) n new fits same b m (le-refl _))
-    ∙ ap (λ (l : List ℕ). part xs b m ++ l)
-    (joined z (b + m) n r
-    ∙ ap (λ (l : List ℕ). l ++ part z (b + m + n) r) (part-splice xs (b + m) n new fits same)
-    ∙ ap (λ (l : List ℕ). new ++ l) (part-after xs (b + m) n new fits same (b + m + n) r (le-refl _)))
-
-module _ (xs ys : List ℕ) (b k : ℕ) (agree : part xs b k ≡ part ys b k) where
-  pub parts-alike : (at m : ℕ) → b ≤ at → at + m ≤ b + k → part xs at m ≡ part ys at m
-  parts-alike at m low high =
-      let e : b + (at - b) ≡ at = omega arith in
-      let fits : at - b + m ≤ k = omega arith in
-      rw (← e) (sym (inner xs b k (at - b) m fits) ∙ ap (λ (l : List ℕ). part l (at - b) m) agree ∙ inner ys b k (at - b) m fits)
-
-  splices-alike-at : (m n r : ℕ) (new : List ℕ) → m + (n + r) ≡ k → b + m + n ≤ length xs → b + m + n ≤ length ys → length new ≡ n → part (splice xs (b + m) n new) b (m + (n + r)) ≡ part (splice ys (b + m) n new) b (m + (n + r))
-  splices-alike-at m n r new all fits fitsʳ same =
-      spliced xs b m n r new fits same
-      ∙ ap (λ (l : List ℕ). l ++ (new ++ part xs (b + m + n) r)) (parts-alike b m (le-refl _) (omega arith))
-      ∙ ap (λ (l : List ℕ). part ys b m ++ (new ++ l)) (parts-alike (b + m + n) r (omega arith) (omega arith))
-      ∙ sym (spliced ys b m n r new fitsʳ same)
-
-  pub splices-alike : (at n : ℕ) (new : List ℕ) → b ≤ at → at + n ≤ b + k → at + n ≤ length xs → at + n ≤ length ys → length new ≡ n → part (splice xs at n new) b k ≡ part (splice ys at n new) b k
-  splices-alike at n new low high fits fitsʳ same =
-      let e : b + (at - b) ≡ at = omega arith in
-      let all : at - b + (n + (b + k - (at + n))) ≡ k = omega arith in
-      let p = splices-alike-at (at - b) n (b + k - (at + n)) new all (omega arith) (omega arith) same in
-      rw (e, all) at p
-
-  pub getD-alike : (i : ℕ) → i < k → getD xs (b + i) 0 ≡ getD ys (b + i) 0
-  getD-alike i h = sym (getD-part xs b k i h) ∙ ap (λ (l : List ℕ). getD l i 0) agree ∙ getD-part ys b k i h
+pub getD-alike : (xs ys : List ℕ) (b k : ℕ) → part xs b k ≡ part ys b k → (i : ℕ) → i < k → getD xs (b + i) 0 ≡ getD ys (b + i) 0
+getD-alike xs ys b k agree i within =
+    sym (byte-of-part xs (b + i))
+    ∙ ap (λ (l : List ℕ). getD l 0 0) (parts-alike xs ys b k agree (b + i) 1 (omega arith) (omega arith))
+    ∙ byte-of-part ys (b + i)
 
 pub set-splice : (xs : List ℕ) (i v : ℕ) → i < length xs → set xs i v ≡ splice xs i 1 (v ∷ [])
 unfolding splice
-set-splice xs i v h = rw (drop-drop 1 i xs, add-one) (set-split xs i v h)
+set-splice [] i v there = absurd (omega arith)
+set-splice (x ∷ xs) zero v there = refl
+set-splice (x ∷ xs) (suc i) v there = ap (λ (l : List ℕ). x ∷ l) (set-splice xs i v (omega arith))
 
--- lists of c pieces of n bytes
-takes : (n c : ℕ) (xs ys : List ℕ) → ((l : ℕ) → l < c → part xs (l * n) n ≡ part ys (l * n) n) → take (c * n) xs ≡ take (c * n) ys
+-- behind the first piece the others are one number lower
+piece-behind : (xs : List ℕ) (n l : ℕ) → part (drop n xs) (l * n) n ≡ part xs (suc l * n) n
 unfolding part
-takes n zero xs ys h = rw zero-mul
-takes n (suc c) xs ys h =
-    let front : take (c * n) xs ≡ take (c * n) ys = takes n c xs ys (λ l b. h l (omega arith)) in
-    let last : take n (drop (c * n) xs) ≡ take n (drop (c * n) ys) = h c (omega arith) in
-    rw (suc-mul, take-add (c * n) n xs, take-add (c * n) n ys) (cc)
+piece-behind xs n l =
+    let there : n + l * n ≡ suc l * n = omega (arith, suc-mul l n) in
+    rw (← there) (ap (take n) (drop-drop (l * n) n xs))
+
+none-there : (xs : List ℕ) → length xs ≡ 0 → xs ≡ []
+none-there [] empty = refl
+none-there (x ∷ xs) empty = absurd (omega arith)
 
 pub pieces-ext : (n c : ℕ) (xs ys : List ℕ) → length xs ≡ c * n → length ys ≡ c * n → ((l : ℕ) → l < c → part xs (l * n) n ≡ part ys (l * n) n) → xs ≡ ys
-pieces-ext n c xs ys ex ey h = sym (take-all (c * n) xs (omega arith)) ∙ takes n c xs ys h ∙ take-all (c * n) ys (omega arith)
+unfolding part
+pieces-ext n zero xs ys ex ey alike =
+    none-there xs (omega (arith, ex, zero-mul n)) ∙ sym (none-there ys (omega (arith, ey, zero-mul n)))
+pieces-ext n (suc c) xs ys ex ey alike =
+    let zeroth = alike 0 (omega arith) in
+    let first : take n xs ≡ take n ys = rw (zero-mul n) at zeroth in
+    let others : drop n xs ≡ drop n ys =
+    pieces-ext n c (drop n xs) (drop n ys)
+    (omega (arith, ex, suc-mul c n, length-drop n xs))
+    (omega (arith, ey, suc-mul c n, length-drop n ys))
+    (λ l below. piece-behind xs n l ∙ alike (suc l) (omega arith) ∙ sym (piece-behind ys n l)) in
+    sym (take-append-drop n xs)
+    ∙ ap (λ (l : List ℕ). l ++ drop n xs) first
+    ∙ ap (λ (l : List ℕ). take n ys ++ l) others
+    ∙ take-append-drop n ys

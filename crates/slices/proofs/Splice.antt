@@ -1,79 +1,85 @@
--- Laws of `splice` and `part`: what a caller of a cells on a part of its buffer goes by.
---     length-splice     a splice of as many bytes keeps the length
---     part-splice       the spliced part is what was put there
---     part-before, part-after   a part that lies before or after it is as it was
---     part-apart        so is another piece of the same size
+-- What a splice does to a list, shown byte by byte from the list's front.
+--     length-splice     new bytes in the place of as many keep the length
+--     part-splice       the place has the new bytes
+--     part-before, part-after   what lies before the place, or behind it, is as it was
+--     part-apart        so is another piece, where the list is cut into pieces of one size
 -- Assumes nothing.
 use mathlib.Core.Path.{_≡_, refl, sym, ap, _∙_}
 use mathlib.Core.List.{List, [], _∷_, _++_}
 use mathlib.Core.Bool.{Bool, true, false}
-use Prim.Native.Nat.{ℕ, suc, _+_, _-_, _*_, _≤_, _<_}
+use Prim.Native.Nat.{ℕ, zero, suc, _+_, _-_, _*_, _≤_, _<_}
 use native.Mathlib.Nat.{suc-mul, mul-le-mul-right}
 use borrow.Author.Tests.{ltb-true, ltb-false}
 use lib.Arith.{lt-of-le-ne}
 use lib.Dec.{ltb}
 use native.Mathlib.Omega.{arith}
-use lib.ListN.{length, take, drop, length-append, length-drop, take-append-drop}
-use lib.Seq.{length-take-le, take-at, drop-at, take-append-le, drop-append-le, drop-drop}
+use lib.ListN.{length, take, drop, length-append, length-drop}
+use lib.Seq.{length-take-le, take-at}
 use Rattle.slices.specs.Cells.{splice, part}
 
 pub length-part : (xs : List ℕ) (at n : ℕ) → at + n ≤ length xs → length (take n (drop at xs)) ≡ n
-length-part xs at n h = length-take-le n (drop at xs) (omega (arith, length-drop at xs))
+length-part xs zero n fits = length-take-le n xs (omega arith)
+length-part [] (suc at) n fits = absurd (omega arith)
+length-part (x ∷ xs) (suc at) n fits = length-part xs at n (omega arith)
 
--- a part of a list's front is a part of the list
-part-front : (p q : List ℕ) (a k : ℕ) → a + k ≤ length p → part (p ++ q) a k ≡ part p a k
-unfolding part
-part-front p q a k h =
-    rw (drop-append-le a p q (omega arith))
-    (take-append-le k (drop a p) q (omega (arith, length-drop a p)))
+pub length-splice : (xs : List ℕ) (at n : ℕ) (new : List ℕ) → at + n ≤ length xs → length new ≡ n → length (splice xs at n new) ≡ length xs
+unfolding splice
+length-splice xs zero n new fits same = simp (length-append, length-drop) (omega arith)
+length-splice [] (suc at) n new fits same = absurd (omega arith)
+length-splice (x ∷ xs) (suc at) n new fits same = ap suc (length-splice xs at n new (omega arith) same)
 
--- a part that starts past a front of n bytes
-part-past : (xs : List ℕ) (n a k : ℕ) → n ≤ a → part xs a k ≡ part (drop n xs) (a - n) k
-unfolding part
-part-past xs n a k h =
-    let e : n + (a - n) ≡ a = omega arith in
-    sym (rw (drop-drop (a - n) n xs, e))
+pub part-splice : (xs : List ℕ) (at n : ℕ) (new : List ℕ) → at + n ≤ length xs → length new ≡ n → part (splice xs at n new) at n ≡ new
+unfolding splice part
+part-splice xs zero n new fits same = take-at new _ n same
+part-splice [] (suc at) n new fits same = absurd (omega arith)
+part-splice (x ∷ xs) (suc at) n new fits same = part-splice xs at n new (omega arith) same
 
-module _ (xs : List ℕ) (at n : ℕ) (new : List ℕ) (fits : at + n ≤ length xs) (same : length new ≡ n) where
-  front : length (take at xs) ≡ at
-  front = length-take-le at xs (omega arith)
+-- the first bytes, no more than lie before the place
+front-kept : (xs : List ℕ) (at n : ℕ) (new : List ℕ) (k : ℕ) → k ≤ at → at ≤ length xs → take k (splice xs at n new) ≡ take k xs
+unfolding splice
+front-kept xs at n new zero low fits = refl
+front-kept xs zero n new (suc k) low fits = absurd (omega arith)
+front-kept [] (suc at) n new (suc k) low fits = absurd (omega arith)
+front-kept (x ∷ xs) (suc at) n new (suc k) low fits =
+    ap (λ (l : List ℕ). x ∷ l) (front-kept xs at n new k (omega arith) (omega arith))
 
-  pub length-splice : length (splice xs at n new) ≡ length xs
-  unfolding splice
-  length-splice = simp (length-append, front, length-drop) (omega arith)
+pub part-before : (xs : List ℕ) (at n : ℕ) (new : List ℕ) → at + n ≤ length xs → length new ≡ n → (a k : ℕ) → a + k ≤ at → part (splice xs at n new) a k ≡ part xs a k
+unfolding splice part
+part-before xs at n new fits same zero k ends = front-kept xs at n new k (omega arith) (omega arith)
+part-before xs zero n new fits same (suc a) k ends = absurd (omega arith)
+part-before [] (suc at) n new fits same (suc a) k ends = absurd (omega arith)
+part-before (x ∷ xs) (suc at) n new fits same (suc a) k ends = part-before xs at n new (omega arith) same a k (omega arith)
 
-  pub part-splice : part (splice xs at n new) at n ≡ new
-  unfolding splice part
-  part-splice = rw (drop-at (take at xs) (new ++ drop n (drop at xs)) at front) (take-at new _ n same)
+-- behind new bytes at the list's front
+behind-new : (new xs : List ℕ) (n a : ℕ) → length new ≡ n → n ≤ length xs → n ≤ a → drop a (new ++ drop n xs) ≡ drop a xs
+behind-new [] xs zero a same fits past = refl
+behind-new [] xs (suc n) a same fits past = absurd (omega arith)
+behind-new (y ∷ new) xs zero a same fits past = absurd (omega arith)
+behind-new (y ∷ new) [] (suc n) a same fits past = absurd (omega arith)
+behind-new (y ∷ new) (x ∷ xs) (suc n) zero same fits past = absurd (omega arith)
+behind-new (y ∷ new) (x ∷ xs) (suc n) (suc a) same fits past = behind-new new xs n a (omega arith) (omega arith) (omega arith)
 
-  pub part-before : (a k : ℕ) → a + k ≤ at → part (splice xs at n new) a k ≡ part xs a k
-  unfolding splice
-  part-before a k h =
-      part-front (take at xs) (new ++ drop n (drop at xs)) a k (omega (arith, front))
-      ∙ sym (part-front (take at xs) (drop at xs) a k (omega (arith, front)))
-      ∙ ap (λ (l : List ℕ). part l a k) (take-append-drop at xs)
+pub part-after : (xs : List ℕ) (at n : ℕ) (new : List ℕ) → at + n ≤ length xs → length new ≡ n → (a k : ℕ) → at + n ≤ a → part (splice xs at n new) a k ≡ part xs a k
+unfolding splice part
+part-after xs zero n new fits same a k past = ap (take k) (behind-new new xs n a same (omega arith) (omega arith))
+part-after [] (suc at) n new fits same a k past = absurd (omega arith)
+part-after (x ∷ xs) (suc at) n new fits same zero k past = absurd (omega arith)
+part-after (x ∷ xs) (suc at) n new fits same (suc a) k past = part-after xs at n new (omega arith) same a k (omega arith)
 
-  pub part-after : (a k : ℕ) → at + n ≤ a → part (splice xs at n new) a k ≡ part xs a k
-  unfolding splice
-  part-after a k h =
-      part-past (splice xs at n new) at a k (omega arith)
-      ∙ ap (λ (l : List ℕ). part l (a - at) k) (drop-at (take at xs) (new ++ drop n (drop at xs)) at front)
-      ∙ part-past (new ++ drop n (drop at xs)) n (a - at) k (omega arith)
-      ∙ ap (λ (l : List ℕ). part l (a - at - n) k) (drop-at new (drop n (drop at xs)) n same)
-      ∙ sym (part-past (drop at xs) n (a - at) k (omega arith))
-      ∙ sym (part-past xs at a k (omega arith))
-
--- of n pieces of k bytes, an earlier one ends before a later one starts
+-- a piece ends where the next one begins, or before a later one
 pub piece : (k : ℕ) {i n : ℕ} → i < n → i * k + k ≤ n * k
-piece k {i} {n} h = rw (← suc-mul i k) (mul-le-mul-right k h)
+piece k {i} {n} below =
+    let ends = mul-le-mul-right k below in
+    rw (suc-mul i k) at ends
 
--- a splice within the l-th piece of k bytes leaves the m-th
-module _ (xs : List ℕ) (at n : ℕ) (new : List ℕ) (fits : at + n ≤ length xs) (same : length new ≡ n) (k l m : ℕ) (low : l * k ≤ at) (high : at + n ≤ l * k + k) (other : l ≡ m → ⊥) where
-  by-side : (b : Bool) → ltb l m ≡ b → part (splice xs at n new) (m * k) k ≡ part xs (m * k) k
-  by-side true h = part-after xs at n new fits same (m * k) k (omega (arith, piece k (ltb-true l m h)))
-  by-side false h =
-      let below : m < l = lt-of-le-ne (ltb-false l m h) (λ e. other (sym e)) in
-      part-before xs at n new fits same (m * k) k (omega (arith, piece k below))
+-- of two numbers that differ one is the smaller
+one-below : {A : Type 0} (l m : ℕ) (b : Bool) → ltb l m ≡ b → (l ≡ m → ⊥) → (l < m → A) → (m < l → A) → A
+one-below l m true h other less more = less (ltb-true l m h)
+one-below l m false h other less more = more (lt-of-le-ne (ltb-false l m h) (λ e. other (sym e)))
 
-  pub part-apart : part (splice xs at n new) (m * k) k ≡ part xs (m * k) k
-  part-apart = by-side (ltb l m) refl
+-- new bytes within piece number l of k bytes: another piece lies before them or behind them
+pub part-apart : (xs : List ℕ) (at n : ℕ) (new : List ℕ) → at + n ≤ length xs → length new ≡ n → (k l m : ℕ) → l * k ≤ at → at + n ≤ l * k + k → (l ≡ m → ⊥) → part (splice xs at n new) (m * k) k ≡ part xs (m * k) k
+part-apart xs at n new fits same k l m low high other =
+    one-below l m (ltb l m) refl other
+    (λ h. part-after xs at n new fits same (m * k) k (omega (arith, piece k h)))
+    (λ h. part-before xs at n new fits same (m * k) k (omega (arith, piece k h)))
