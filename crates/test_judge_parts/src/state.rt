@@ -4,8 +4,8 @@ use test_kit::numbers::add;
 use test_kit::numbers::byte;
 use test_kit::numbers::wide;
 
-// The generator's numbers, by the places of `place`, `field` and `knob`, and behind them the bytes of the trace that it makes:
-// one buffer for both, since each `&mut` that a call is given makes its proof longer.
+// The generator's numbers, by the places of `place`, `field` and `knob`, and behind them the bytes of the trace that it
+// makes: one buffer for both, since each `&mut` that a call is given makes its proof longer.
 pub type State = [usize; 8272];
 
 // A trace, replies or counts.
