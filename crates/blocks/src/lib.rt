@@ -1,4 +1,6 @@
 // A page and its block among the counts and flags, and what those say of them.
+#![tactic(auto)]
+
 ghost use Rattle.std.specs.Prelude.{◌≡◌, true, ◌*◌, ◌<◌, ◌≤◌};
 ghost use Rattle.target.specs.Pick.{pick};
 ghost use Rattle.target.specs.Address.{row_exists, block_exists};

@@ -1,5 +1,7 @@
 // The record after an event, and the work that an accepted event asks of the lent buffers. All by value. Each function goes by the
 // event's kind first, so that an event computes its own case alone.
+#![tactic(auto)]
+
 pub mod outputs;
 pub mod sequences;
 pub mod works;

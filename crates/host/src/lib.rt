@@ -1,6 +1,8 @@
 // The model for hosts in C, Python or Rust. An exported function takes no enum, and a host may write any byte into memory that
 // it owns, so the host's record is all plain numbers: it is unpacked, the proved model is asked, and the answer is packed.
 // Numbers that no record packs to stand for a target that is not powered, and stay as they are.
+#![tactic(auto)]
+
 pub mod checks;
 pub mod numbers;
 pub mod whole_jobs;
@@ -20,7 +22,7 @@ use unread::{Source, Unread, unread_part};
 
 // The record as a host holds it: `nib_target` of include/nibtoggle.h.
 #[repr(C)]
-#[derive(Drop)]
+#[derive(Clone, Copy)]
 pub struct Image {
     pub data_bytes: u16,
     pub spare_bytes: u16,
@@ -250,7 +252,7 @@ pub fn reply_number(a: Reply) -> u32
 }
 
 // An answer, and the record after it.
-#[derive(Drop)]
+#[derive(Clone, Copy)]
 pub struct Answered {
     pub answer: u32,
     pub image: Image,

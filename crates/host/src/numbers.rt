@@ -11,7 +11,7 @@ use target::{
 };
 
 // The open sequence as numbers; what it has not is 0.
-#[derive(Drop)]
+#[derive(Clone, Copy)]
 pub struct Cycles {
     pub kind: u8,
     pub first: u8,
@@ -24,7 +24,7 @@ pub struct Cycles {
 }
 
 // The output as numbers; what it has not is 0.
-#[derive(Drop)]
+#[derive(Clone, Copy)]
 pub struct Place {
     pub kind: u8,
     pub lun: usize,

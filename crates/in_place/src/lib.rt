@@ -1,6 +1,8 @@
 // References to structs: one event over a record that is lent, and batches of events that are held as records in memory. The
 // borrow checker covers neither form, so each function over one is as thin as it can be. Programs in Rattle call `step_lent`
 // and `run_some`, which hold the record and the events themselves.
+#![tactic(auto)]
+
 ghost use Rattle.std.specs.Prelude.{◌≡◌, ◌+◌, ◌*◌, ◌<◌, min, length, take};
 ghost use Rattle.step.specs.Step.{Outcome, step_of};
 ghost use Rattle.trace.specs.Run.{Running, one_more, Traced, batch_of};
@@ -73,7 +75,7 @@ fn run_one(
 }
 
 // What a batch answers, and how many of its events are run: all or none.
-#[derive(Drop)]
+#[derive(Clone, Copy)]
 pub struct Plan {
     pub answer: RunAnswer,
     pub count: usize,

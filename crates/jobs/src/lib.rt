@@ -1,12 +1,14 @@
 // Whole jobs written as records and read back: a read, a read-out, a program, an erase and a status, over lent slices.
 // `writing` makes a job's records, `reading` groups records into jobs, and `numbers` is both for hosts. No call has a `requires`.
+#![tactic(auto)]
+
 pub mod numbers;
 pub mod reading;
 pub mod writing;
 
 // A job by value. Row and column are plain numbers, since they may be too wide for their cycles. A program's bytes are lent
 // beside it.
-#[derive(Drop)]
+#[derive(Clone, Copy)]
 pub enum Job {
     // 00h, five addresses, 30h
     Read {

@@ -8,7 +8,7 @@ use crate::reading::{Found, Listed, first_misfit, job_at};
 use crate::writing::{Answer, write};
 
 // What the numbers of a job name.
-#[derive(Drop)]
+#[derive(Clone, Copy)]
 pub enum NamedJob {
     Nothing,
     One(Job),
@@ -16,7 +16,7 @@ pub enum NamedJob {
 
 // A job that was found, in numbers: 0 none, 1 to 5 which job, 6 a misfit. `count` is that of its data cycles, `place` where a
 // program's first byte stands, `next` the place after the job, or the misfit's place.
-#[derive(Drop)]
+#[derive(Clone, Copy)]
 pub struct JobNumbers {
     pub kind: usize,
     pub column: usize,

@@ -9,7 +9,7 @@ use crate::Job;
 use slices::byte_at;
 
 // Which job a record begins.
-#[derive(Drop)]
+#[derive(Clone, Copy)]
 pub enum First {
     Nothing,
     Read,
@@ -20,14 +20,14 @@ pub enum First {
 }
 
 // How far the records of a job fit: to the place after its last, or up to one that does not fit.
-#[derive(Drop)]
+#[derive(Clone, Copy)]
 pub enum Reached {
     Whole(usize),
     Stops(usize),
 }
 
 // What stands at a place.
-#[derive(Drop)]
+#[derive(Clone, Copy)]
 pub enum Found {
     // No record: the list ends there, or before.
     End,
@@ -44,7 +44,7 @@ pub enum Found {
 }
 
 // A list of records as a whole.
-#[derive(Drop)]
+#[derive(Clone, Copy)]
 pub enum Listed {
     // Whole jobs, none or more.
     Jobs,

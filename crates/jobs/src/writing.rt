@@ -8,7 +8,7 @@ ghost use Rattle.jobs.specs.Writing.{too_wide, wide, head_long, head_short, data
 use crate::Job;
 
 // What writing a job answers.
-#[derive(Drop)]
+#[derive(Clone, Copy)]
 pub enum Answer {
     // A row above 24 bits or a column above 16. The room was not looked at.
     TooWide,

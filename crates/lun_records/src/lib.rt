@@ -1,4 +1,6 @@
 // The LUN records after an event. All by value.
+#![tactic(auto)]
+
 ghost use Rattle.std.specs.Prelude.{◌≡◌, true, ◌-◌, set};
 ghost use Rattle.target.specs.Sizes.{in_limits};
 ghost use Rattle.lun_records.specs.LunsAfter.{begun, one_more, blank_after, end_closes, ended_luns, addressed_luns, finished, luns_after};

@@ -1,4 +1,6 @@
 // The memory of the output that was open before a status, after an event.
+#![tactic(auto)]
+
 ghost use Rattle.std.specs.Prelude.{◌≡◌};
 ghost use Rattle.memory.specs.Memory.{remembered, first_kept, command_kept, row_kept, addressed_kept, kept_after};
 

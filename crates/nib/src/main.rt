@@ -1,4 +1,6 @@
 // nib, the bench at the command line.
+#![tactic(auto)]
+
 fn main() {
     nib_app::nib();
 }

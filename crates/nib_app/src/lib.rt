@@ -1,6 +1,8 @@
 // nib, the bench at the command line: all of the program, so that it and the programs that try its commands are one call each. Each
 // command's own work stands in a crate of its own: nib_run, nib_demo, nib_look, nib_page, nib_check, nib_translate, nib_scripts,
 // nib_jobs.
+#![tactic(auto)]
+
 pub mod known;
 
 ghost use Rattle.io.specs.Counts.{IsPrefixLen as Counted};
@@ -71,7 +73,7 @@ fn part_of(name: &[u8], page: &mut Page) -> Part {
 }
 
 // What a command works on. A function with few calls is proved faster than one with many, so each has its own.
-#[derive(Drop)]
+#[derive(Clone, Copy)]
 enum Work {
     // no part: a text, an answer to ECh, or what nib says of itself
     NoPart,

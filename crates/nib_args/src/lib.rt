@@ -1,11 +1,13 @@
 // Which command the arguments name, and what it may do to files.
+#![tactic(auto)]
+
 ghost use Rattle.std.specs.Prelude.{◌≡◌};
 ghost use Rattle.target.specs.Pick.{pick};
 ghost use Rattle.nib_args.specs.Asked.{same_bytes, alone_of, dashed, named, with_one_of, with_two_of, asked_of, touches, may_of};
 
 use slices::byte_at;
 
-#[derive(Drop)]
+#[derive(Clone, Copy)]
 pub enum Asked {
     Demo,
     New,
@@ -42,7 +44,7 @@ pub enum Asked {
 }
 
 // What a command may do to a part folder.
-#[derive(Drop)]
+#[derive(Clone, Copy)]
 pub struct May {
     // makes one
     pub make: bool,

@@ -1,4 +1,6 @@
 // `nib check`: which rules the pages of an answer to ECh break.
+#![tactic(auto)]
+
 use libc::{STDERR_FILENO, STDOUT_FILENO};
 use nib_print::pen::{Paper, Pen, begin, end_line, failed, flush, number, pad, put, text};
 use page::fields::{data_bytes, lun_count, pages_a_block, programs_a_page};

@@ -1,2 +1,4 @@
 // `nib demo`.
+#![tactic(auto)]
+
 pub mod demo;

@@ -1,5 +1,7 @@
 // Whether what a script expects was answered, and in words what came instead. By value: what has come since the expectation
 // before (`Since`), one reply more (`after`), and whether an expectation holds. All with no `requires`.
+#![tactic(auto)]
+
 pub mod words;
 
 ghost use Rattle.std.specs.Prelude.{◌≡◌};
@@ -9,7 +11,7 @@ use nib_args::is_word;
 use target::picks::{pick_byte, pick_number};
 
 // What the events since the last expectation were answered, or those since the script's beginning.
-#[derive(Drop)]
+#[derive(Clone, Copy)]
 pub struct Since {
     // an event has come
     pub any: bool,

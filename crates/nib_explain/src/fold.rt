@@ -7,7 +7,7 @@ use nib_text::reading::up;
 use target::picks::{pick_byte, pick_number};
 
 // The run of data that an event belongs to.
-#[derive(Drop)]
+#[derive(Clone, Copy)]
 pub enum Run {
     // none: the event is told by itself
     Nothing,
@@ -20,7 +20,7 @@ pub enum Run {
 }
 
 // What is held back: cycles of one run, the byte of the first of them, and how many there are.
-#[derive(Drop)]
+#[derive(Clone, Copy)]
 pub struct Held {
     pub run: Run,
     pub byte: u8,

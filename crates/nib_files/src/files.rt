@@ -59,7 +59,7 @@ pub fn one_more(fd: i32) -> isize {
 }
 
 // All of an input: whether it was read and is held, and how long it is.
-#[derive(Drop)]
+#[derive(Clone, Copy)]
 pub struct Input {
     pub good: bool,
     pub n: usize,

@@ -59,7 +59,7 @@ pub fn to_w(page: &mut Page) {
 pub const T1_ID: u8 = 0x68;
 
 // What is to be run: the lengths of a part's buffers, and its device ID.
-#[derive(Drop)]
+#[derive(Clone, Copy)]
 pub struct Part {
     pub good: bool,
     pub device: u8,
@@ -278,7 +278,7 @@ fn page_of(dir: &[u8], page: &mut Page) -> Part {
 }
 
 // A part's sizes alone, for who only speaks of it: it may be larger than nib holds. Not good where there is none.
-#[derive(Drop)]
+#[derive(Clone, Copy)]
 pub struct Shape {
     pub good: bool,
     pub geometry: Geometry,

@@ -1,4 +1,6 @@
 // `nib jobs`: a trace told as whole jobs, and what is none.
+#![tactic(auto)]
+
 use libc::STDOUT_FILENO;
 use nib_files::files::{Input, read_input};
 use nib_files::part::{Array, Shape};
@@ -10,7 +12,7 @@ use nib_told::lines::{is_end, line_at};
 use nib_told::words::line_words;
 
 // How far a trace has been told.
-#[derive(Drop)]
+#[derive(Clone, Copy)]
 pub struct Telling {
     pub pen: Pen,
     pub at: usize,

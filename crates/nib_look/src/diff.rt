@@ -16,7 +16,7 @@ use target::sizes::page_size;
 pub type Buffer = [u8; 18432];
 
 // What was found so far.
-#[derive(Drop)]
+#[derive(Clone, Copy)]
 pub struct Found {
     pub pen: Pen,
     pub differs: bool,
@@ -25,7 +25,7 @@ pub struct Found {
 }
 
 // How many bytes of two slices differ, and the first place where they do.
-#[derive(Drop)]
+#[derive(Clone, Copy)]
 struct Bytes {
     many: usize,
     first: usize,

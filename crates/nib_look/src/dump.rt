@@ -11,7 +11,7 @@ use target::Geometry;
 use target::sizes::page_size;
 
 // A LUN, block or page that was given.
-#[derive(Drop)]
+#[derive(Clone, Copy)]
 struct Given {
     good: bool,
     n: usize,

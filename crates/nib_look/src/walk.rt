@@ -8,7 +8,7 @@ use target::Geometry;
 use target::picks::pick_number;
 use target::sizes::page_size;
 
-#[derive(Drop)]
+#[derive(Clone, Copy)]
 pub struct Place {
     pub lun: usize,
     pub block: usize,

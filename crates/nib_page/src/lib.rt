@@ -1,2 +1,4 @@
 // `nib page`.
+#![tactic(auto)]
+
 pub mod pages;

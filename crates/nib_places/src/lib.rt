@@ -1,5 +1,7 @@
 // The places that a job's words name, on a part: which values the part has (`on_part`), the values of a job as they come
 // (`Values`), and LUN, block and page as a row (`row_of`). All by value, with no `requires`.
+#![tactic(auto)]
+
 ghost use Rattle.std.specs.Prelude.{◌≡◌, true, ◌^◌, ◌<◌};
 ghost use Rattle.nib_text.specs.declared.reading.Said.TheVariants as said;
 ghost use Rattle.nib_places.specs.Places.{rows_fit, is_there, row_of, ranged, on_part, no_values, stored, job_of};
@@ -14,7 +16,7 @@ use target::address::width;
 use target::sizes::page_size;
 
 // The values that a job has so far.
-#[derive(Drop)]
+#[derive(Clone, Copy)]
 pub struct Values {
     pub lun: usize,
     pub block: usize,

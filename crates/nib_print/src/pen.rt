@@ -5,7 +5,7 @@ use libc::STDERR_FILENO;
 
 pub type Paper = [u8; 65536];
 
-#[derive(Drop)]
+#[derive(Clone, Copy)]
 pub struct Pen {
     pub fd: i32,
     // how many bytes wait on the paper

@@ -1,2 +1,4 @@
 // `nib run` and `nib explain`.
+#![tactic(auto)]
+
 pub mod running;

@@ -24,7 +24,7 @@ use target::{Event, Target};
 pub type Shown = [u8; 16];
 
 // How a trace's replies are given.
-#[derive(Drop)]
+#[derive(Clone, Copy)]
 pub enum Telling {
     // as two bytes
     Replies,

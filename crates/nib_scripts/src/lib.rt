@@ -1,4 +1,6 @@
 // `nib test`: a text is run on a folder's part, and what it expects is looked at on the way.
+#![tactic(auto)]
+
 ghost use Rattle.std.specs.Prelude.{◌≡◌, ◌+◌, ◌<◌};
 
 use jobs::Job;
@@ -32,7 +34,7 @@ pub type Given = [u8; 87383];
 type Words = [u8; 256];
 
 // How far a script has come.
-#[derive(Drop)]
+#[derive(Clone, Copy)]
 pub struct Script {
     pub target: Target,
     // how many events and expectations have come, and how many of these failed
@@ -399,7 +401,7 @@ fn ran_front(
 }
 
 // How far the text and the script have come.
-#[derive(Drop)]
+#[derive(Clone, Copy)]
 pub struct Both {
     pub text: Text,
     pub script: Script,

@@ -1,4 +1,6 @@
 // What a part folder has to hold: the lengths of its files, from its parameter page.
+#![tactic(auto)]
+
 ghost use Rattle.std.specs.Prelude.{◌≡◌, true};
 ghost use Rattle.target.specs.Sizes.{in_limits};
 ghost use Rattle.nib_sizes.specs.Folder.{lengths_of, planned, known_of, Limited, plan_of};
@@ -8,7 +10,7 @@ use power::{PowerRefusal, geometry_of};
 use target::Geometry;
 use target::sizes::page_size;
 
-#[derive(Drop)]
+#[derive(Clone, Copy)]
 pub struct Lengths {
     pub array: usize,
     pub registers: usize,
@@ -17,7 +19,7 @@ pub struct Lengths {
 }
 
 // What a page says of its part.
-#[derive(Drop)]
+#[derive(Clone, Copy)]
 pub enum Known {
     Part(Geometry),
     // what power-on refuses whatever the buffers are: 20 to 23
@@ -25,7 +27,7 @@ pub enum Known {
 }
 
 // What a page says of its folder.
-#[derive(Drop)]
+#[derive(Clone, Copy)]
 pub enum Plan {
     Sizes(Lengths),
     Refused(PowerRefusal),

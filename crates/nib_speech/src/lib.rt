@@ -1,6 +1,8 @@
 // For hosts: the grammar of a trace as text, what a script expects, and the words of `explain` and `jobs`, over plain numbers and
 // lent bytes, so that no host writes them a second time. What is read, written or answered so far is a number, which is 0 where a
 // text, a trace or a script begins.
+#![tactic(auto)]
+
 pub mod expects;
 pub mod folds;
 pub mod pieces;

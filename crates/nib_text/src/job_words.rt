@@ -9,7 +9,7 @@ use slices::byte_at;
 use target::picks::pick_byte;
 
 // What a job's next value is.
-#[derive(Drop)]
+#[derive(Clone, Copy)]
 pub enum Asks {
     // no more is taken
     Nothing,

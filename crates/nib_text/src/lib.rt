@@ -3,6 +3,8 @@
 // are: c commands, a addresses, d data in, x bytes as they are, each of two hex digits; o a count of data outs, f the number of
 // a LUN that finishes, p the level of the protect line, each in decimal. A word of `job_words` says a whole job. What must be
 // answered is an expectation, which adds nothing to the trace: = bytes, ! a refusal's number, and the word `ok`.
+#![tactic(auto)]
+
 pub mod job_words;
 pub mod reading;
 pub mod writing;
@@ -12,7 +14,7 @@ ghost use Rattle.nib_text.specs.Kinds.{kind_number, same_kind};
 ghost use Rattle.target.specs.Pick.{pick};
 
 // What the values on a line are: the letter that stands before them.
-#[derive(Drop)]
+#[derive(Clone, Copy)]
 pub enum Kind {
     Nothing,
     // c

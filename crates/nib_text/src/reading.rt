@@ -11,7 +11,7 @@ use jobs::reading::First;
 use target::picks::{pick_bool, pick_byte, pick_number};
 
 // The word under way.
-#[derive(Drop)]
+#[derive(Clone, Copy)]
 pub struct Word {
     // how many bytes it has: 0, 1, 2, and 3 for more
     pub length: u8,
@@ -26,7 +26,7 @@ pub struct Word {
     pub name: u8,
 }
 
-#[derive(Drop)]
+#[derive(Clone, Copy)]
 pub struct Reading {
     pub comment: bool,
     // the letter that counts
@@ -41,7 +41,7 @@ pub struct Reading {
     pub got: u8,
 }
 
-#[derive(Drop)]
+#[derive(Clone, Copy)]
 pub enum Wrong {
     // a value with no letter before it on its line
     NoLetter,
@@ -71,7 +71,7 @@ pub enum Wrong {
 }
 
 // What a byte of text adds to the trace, or expects of it.
-#[derive(Drop)]
+#[derive(Clone, Copy)]
 pub enum Said {
     Nothing,
     Record { kind: u8, value: u8 },
@@ -88,7 +88,7 @@ pub enum Said {
     Refused(u8),
 }
 
-#[derive(Drop)]
+#[derive(Clone, Copy)]
 pub struct Read {
     pub reading: Reading,
     pub said: Said,
@@ -99,7 +99,7 @@ pub struct Read {
 }
 
 // Where a text stands: the line and the place of its next byte, and where its last word begins.
-#[derive(Drop)]
+#[derive(Clone, Copy)]
 pub struct Spot {
     pub line: usize,
     pub place: usize,

@@ -7,7 +7,7 @@ use crate::reading::up;
 use crate::{Kind, pick_kind, same_kind};
 use target::picks::pick_number;
 
-#[derive(Drop)]
+#[derive(Clone, Copy)]
 pub struct Writing {
     // the first byte of a record has come, and this is it
     pub half: bool,
@@ -18,7 +18,7 @@ pub struct Writing {
 }
 
 // A value as it is written: two hex digits; a number; a record as two bytes.
-#[derive(Drop)]
+#[derive(Clone, Copy)]
 pub enum Value {
     Nothing,
     Byte(u8),
@@ -27,7 +27,7 @@ pub enum Value {
 }
 
 // What there is to write, in this order: a whole line of data outs where `outs` is not 0, a line end, a letter, a value.
-#[derive(Drop)]
+#[derive(Clone, Copy)]
 pub struct Piece {
     pub outs: usize,
     pub close: bool,
@@ -35,7 +35,7 @@ pub struct Piece {
     pub value: Value,
 }
 
-#[derive(Drop)]
+#[derive(Clone, Copy)]
 pub struct Wrote {
     pub writing: Writing,
     pub piece: Piece,

@@ -8,7 +8,7 @@ use slices::byte_at;
 use target::picks::pick_number;
 
 // What stands at a place.
-#[derive(Drop)]
+#[derive(Clone, Copy)]
 pub enum Told {
     // no record: the trace ends there
     End,
@@ -34,7 +34,7 @@ pub enum Told {
     Odd(u8),
 }
 
-#[derive(Drop)]
+#[derive(Clone, Copy)]
 pub struct Line {
     pub told: Told,
     // the place where the next line begins

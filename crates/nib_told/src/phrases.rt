@@ -10,7 +10,7 @@ use target::sizes::page_size;
 use target::{Geometry, Row};
 
 // As much of the row as the job's commands look at, where a part is known; else the row.
-#[derive(Drop)]
+#[derive(Clone, Copy)]
 pub enum Place {
     Row(usize),
     Page {
@@ -25,13 +25,13 @@ pub enum Place {
     Lun(usize),
 }
 
-#[derive(Drop)]
+#[derive(Clone, Copy)]
 pub enum Amount {
     Nothing,
     Number(usize),
 }
 
-#[derive(Drop)]
+#[derive(Clone, Copy)]
 pub struct Phrase {
     pub name: First,
     pub place: Place,

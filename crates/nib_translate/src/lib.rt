@@ -1,2 +1,4 @@
 // `nib text` and `nib text -d`.
+#![tactic(auto)]
+
 pub mod texts;

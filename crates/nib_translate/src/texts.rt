@@ -29,7 +29,7 @@ pub type Data = [u8; 350000];
 pub type Room = [u8; 700014];
 
 // How far a text has come.
-#[derive(Drop)]
+#[derive(Clone, Copy)]
 pub struct Text {
     pub reading: Reading,
     pub spot: Spot,
@@ -219,7 +219,7 @@ fn word_size(word: &mut Last, size: usize, r: Reading, b: u8) -> usize {
 
 // One byte of a text: how far it has come with it, what it says, the job that ends with it, and whether a list of expected bytes
 // does.
-#[derive(Drop)]
+#[derive(Clone, Copy)]
 pub struct Step {
     pub text: Text,
     pub said: Said,
@@ -386,7 +386,7 @@ pub fn from_text(part: Shape, input: i32, out: &mut Paper) {
 }
 
 // How far a trace has come on its way to text.
-#[derive(Drop)]
+#[derive(Clone, Copy)]
 pub struct Back {
     pub writing: Writing,
     pub pen: Pen,

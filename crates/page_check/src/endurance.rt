@@ -5,7 +5,7 @@ ghost use Rattle.page_check.specs.Check.{endurance_of};
 use crate::page_rules::multiplier;
 use page::fields::field_1;
 
-#[derive(Drop)]
+#[derive(Clone, Copy)]
 pub enum Endurance {
     // the multiplier is above 16
     Nothing,

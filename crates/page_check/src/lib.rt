@@ -1,4 +1,6 @@
 // A checker for other people's parameter pages: for the 768 bytes that a part answers to ECh, its page three times.
+#![tactic(auto)]
+
 pub mod endurance;
 pub mod page_rules;
 pub mod report;
@@ -11,7 +13,7 @@ use page::limits::{crc_good, is_signed};
 use page_rules::{Broken, broken_rules, no_rule};
 
 // The copy that is looked at, 0 to 2, or why there is none.
-#[derive(Drop)]
+#[derive(Clone, Copy)]
 pub enum Found {
     // not 768 bytes
     Length,
@@ -19,7 +21,7 @@ pub enum Found {
     Copy(usize),
 }
 
-#[derive(Drop)]
+#[derive(Clone, Copy)]
 pub struct Checked {
     pub found: Found,
     pub broken: Broken,

@@ -5,7 +5,7 @@ ghost use Rattle.page_check.specs.Check.{power_below, data_broken, pages_broken,
 use page::fields::{data_bytes, field_1, lun_count, pages_a_block, programs_a_page};
 
 // The bytes of the broken rules, in byte order; the places past `count` hold 0.
-#[derive(Drop)]
+#[derive(Clone, Copy)]
 pub struct Broken {
     pub count: usize,
     pub bytes: [u8; 5],

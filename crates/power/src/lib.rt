@@ -1,4 +1,6 @@
 // Power-on: from a parameter page and the lent buffers to a powered target, or to the right refusal.
+#![tactic(auto)]
+
 ghost use Rattle.std.specs.Prelude.{◌≡◌, true, ◌≤◌, length};
 ghost use Rattle.slices.specs.Cells.{all_at_most};
 ghost use Rattle.target.specs.Sizes.{in_limits};
@@ -16,7 +18,7 @@ use target::records::lun_ready;
 use target::sizes::sized;
 use target::{Decoder, Geometry, Ids, Lun, Luns, Output, Sequence, Target, Words};
 
-#[derive(Drop)]
+#[derive(Clone, Copy)]
 pub enum PowerRefusal {
     // 20
     PageLength,
@@ -32,13 +34,13 @@ pub enum PowerRefusal {
     Content,
 }
 
-#[derive(Drop)]
+#[derive(Clone, Copy)]
 pub enum PowerAnswer {
     Accepted,
     Refused(PowerRefusal),
 }
 
-#[derive(Drop)]
+#[derive(Clone, Copy)]
 pub struct Powered {
     pub answer: PowerAnswer,
     pub target: Target,

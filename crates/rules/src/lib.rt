@@ -1,5 +1,7 @@
 // Which rule refuses an event: one function for each of document 01's numbers, and their order. All by value, with no
 // `requires`. The decision goes by the event's kind, and looks only at the rules that can hold for that kind.
+#![tactic(auto)]
+
 ghost use Rattle.std.specs.Prelude.{◌≡◌};
 ghost use Rattle.rules.specs.Rules.{unknown, before_reset, fits, misplaced, exists, row_fits, beyond, out_of_range, names_working, output_works, lun_works, lacks_copyback, no_copyback, work_for, others_work_for, others_busy, is_guarded, line_low, data_ended, output_ended, past_end, unoffered, not_offered, not_working, line_held, verdict};
 

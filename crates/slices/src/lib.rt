@@ -1,5 +1,7 @@
 // Loops over lent bytes: a whole slice, and the same on a part of a buffer that starts in its middle, lent on as `&mut`.
 // What the buffer then holds is a `splice`; `proofs/Splice.antt` and `proofs/Parts.antt` have the laws that callers go by.
+#![tactic(auto)]
+
 ghost use Rattle.std.specs.Prelude.{◌≡◌, ◌+◌, ◌≤◌, ◌<◌, length, replicate, get_or, set};
 ghost use Rattle.slices.specs.Cells.{and_bytes, splice, part, all_at_most, some_set};
 

@@ -1,4 +1,6 @@
 // One event over a target's record and its lent buffers.
+#![tactic(auto)]
+
 pub mod buffers;
 pub mod usable;
 
@@ -16,7 +18,7 @@ use target::place::put_out;
 use target::{Event, Refusal, Reply, Target, Verdict};
 use usable::usable;
 
-#[derive(Drop)]
+#[derive(Clone, Copy)]
 pub struct Stepped {
     pub reply: Reply,
     pub target: Target,

@@ -6,7 +6,7 @@ use crate::bits::has_option;
 use crate::{First, Second, Words};
 
 // Each command byte has one class; optional bits don't count.
-#[derive(Drop)]
+#[derive(Clone, Copy)]
 pub enum Class {
     First,
     Second,
@@ -70,7 +70,7 @@ pub fn is_known(v: u8) -> bool
 }
 
 // Which fields of a command's row are looked at.
-#[derive(Drop)]
+#[derive(Clone, Copy)]
 pub enum Looks {
     // it has no row
     Nothing,
@@ -82,7 +82,7 @@ pub enum Looks {
 }
 
 // What follows a command's last address cycle.
-#[derive(Drop)]
+#[derive(Clone, Copy)]
 pub enum Then {
     // its second command is due
     Second,
@@ -101,7 +101,7 @@ pub enum Then {
 }
 
 // Which LUNs have to be ready when a command comes (refusal 6).
-#[derive(Drop)]
+#[derive(Clone, Copy)]
 pub enum Waits {
     Nobody,
     // all but the selected one
@@ -110,7 +110,7 @@ pub enum Waits {
 }
 
 // What a first command is like.
-#[derive(Drop)]
+#[derive(Clone, Copy)]
 pub struct FirstRow {
     pub byte: u8,
     // how many address cycles follow
@@ -391,7 +391,7 @@ const FIRSTS: [FirstRow; 13] = [
 ];
 
 // A first command, or none.
-#[derive(Drop)]
+#[derive(Clone, Copy)]
 pub enum FirstFound {
     Nothing,
     Found(First),
@@ -645,7 +645,7 @@ pub fn offered_first(w: Words, k: FirstFound) -> bool
 }
 
 // What a second command does with the page or block that the sequence named.
-#[derive(Drop)]
+#[derive(Clone, Copy)]
 pub enum Act {
     Nothing,
     Load,
@@ -656,7 +656,7 @@ pub enum Act {
 }
 
 // What a second command is like.
-#[derive(Drop)]
+#[derive(Clone, Copy)]
 pub struct SecondRow {
     pub byte: u8,
     // the LUN works from it on
@@ -741,7 +741,7 @@ const START_COPYBACK: SecondRow = SecondRow {
 };
 
 // A second command, or none.
-#[derive(Drop)]
+#[derive(Clone, Copy)]
 pub enum SecondFound {
     Nothing,
     Found(Second),

@@ -1,5 +1,7 @@
 // The target's record and its parts, all by value: events, replies and refusals, addresses, the command list, and the place
 // that a sequence of bus cycles has reached. No function here has a `requires`, and none sees a lent buffer.
+#![tactic(auto)]
+
 pub mod address;
 pub mod bits;
 pub mod commands;
@@ -14,14 +16,14 @@ ghost use Rattle.std.specs.Prelude.{◌≡◌};
 ghost use Rattle.target.specs.Numbers.{number_of, reply_first, reply_second};
 
 // A row address, and a column address: neither is taken for the other.
-#[derive(Drop)]
+#[derive(Clone, Copy)]
 pub struct Row(pub usize);
 
-#[derive(Drop)]
+#[derive(Clone, Copy)]
 pub struct Column(pub usize);
 
 // The sizes that the parameter page gave.
-#[derive(Drop)]
+#[derive(Clone, Copy)]
 pub struct Geometry {
     // data bytes and spare bytes of a page; together they are the page size P
     pub bytes: u16,
@@ -36,7 +38,7 @@ pub struct Geometry {
 }
 
 // The two words of the parameter page that say what the part offers, as they came.
-#[derive(Drop)]
+#[derive(Clone, Copy)]
 pub struct Words {
     // bytes 6 and 7: features supported
     pub features: u16,
@@ -44,13 +46,13 @@ pub struct Words {
     pub optional: u16,
 }
 
-#[derive(Drop)]
+#[derive(Clone, Copy)]
 pub struct Ids {
     pub maker: u8,
     pub device: u8,
 }
 
-#[derive(Drop)]
+#[derive(Clone, Copy)]
 pub struct Lun {
     pub working: bool,
     pub fail: bool,
@@ -64,7 +66,7 @@ pub struct Lun {
 pub type Luns = [Lun; 4];
 
 // The first commands, by the standard's names; `commands::FIRSTS` is their list, and says what each is like.
-#[derive(Drop)]
+#[derive(Clone, Copy)]
 pub enum First {
     // 00h
     Read,
@@ -95,7 +97,7 @@ pub enum First {
 }
 
 // The second commands; `commands::SECONDS` is their list.
-#[derive(Drop)]
+#[derive(Clone, Copy)]
 pub enum Second {
     // 30h: the page is read
     StartRead,
@@ -112,7 +114,7 @@ pub enum Second {
 }
 
 // Column cycles: `got` of two have come, the first of which was `low`.
-#[derive(Drop)]
+#[derive(Clone, Copy)]
 pub struct ColumnCycles {
     pub first: First,
     pub got: u8,
@@ -120,7 +122,7 @@ pub struct ColumnCycles {
 }
 
 // Row cycles, after the column's where there is one: `got` of three have come.
-#[derive(Drop)]
+#[derive(Clone, Copy)]
 pub struct RowCycles {
     pub first: First,
     pub column: Column,
@@ -130,7 +132,7 @@ pub struct RowCycles {
 }
 
 // All addresses have come, and the second command is due.
-#[derive(Drop)]
+#[derive(Clone, Copy)]
 pub struct Wait {
     pub first: First,
     pub column: Column,
@@ -138,7 +140,7 @@ pub struct Wait {
 }
 
 // A program that takes data, opened by 80h or 85h; `at` is the place of the next byte.
-#[derive(Drop)]
+#[derive(Clone, Copy)]
 pub struct Fill {
     pub first: First,
     pub row: Row,
@@ -146,7 +148,7 @@ pub struct Fill {
 }
 
 // 85h inside a program: `got` of its two column cycles have come.
-#[derive(Drop)]
+#[derive(Clone, Copy)]
 pub struct Moved {
     pub first: First,
     pub row: Row,
@@ -155,14 +157,14 @@ pub struct Moved {
 }
 
 // EFh: `got` of its four bytes have come, the first of which was `value`.
-#[derive(Drop)]
+#[derive(Clone, Copy)]
 pub struct FeatureBytes {
     pub got: u8,
     pub value: u8,
 }
 
 // The open sequence, by its shape. A `Column` or a `Row` is whole; bytes of a half-given one stand in `low` and `mid`.
-#[derive(Drop)]
+#[derive(Clone, Copy)]
 pub enum Sequence {
     Idle,
     Columns(ColumnCycles),
@@ -176,7 +178,7 @@ pub enum Sequence {
 }
 
 // What the next data-out cycle gives.
-#[derive(Drop)]
+#[derive(Clone, Copy)]
 pub enum Output {
     Nothing,
     // a page register from `column` on
@@ -192,7 +194,7 @@ pub enum Output {
     Feature { at: usize },
 }
 
-#[derive(Drop)]
+#[derive(Clone, Copy)]
 pub struct Decoder {
     pub sequence: Sequence,
     pub output: Output,
@@ -200,7 +202,7 @@ pub struct Decoder {
     pub kept: Output,
 }
 
-#[derive(Drop)]
+#[derive(Clone, Copy)]
 pub struct Target {
     pub powered: bool,
     pub geometry: Geometry,
@@ -217,13 +219,13 @@ pub struct Target {
     pub decoder: Decoder,
 }
 
-#[derive(Drop)]
+#[derive(Clone, Copy)]
 pub struct Event {
     pub kind: u8,
     pub value: u8,
 }
 
-#[derive(Drop)]
+#[derive(Clone, Copy)]
 pub enum Refusal {
     Unknown,
     BeforeReset,
@@ -241,13 +243,13 @@ pub enum Refusal {
     NoCopyback,
 }
 
-#[derive(Drop)]
+#[derive(Clone, Copy)]
 pub enum Verdict {
     Accepted,
     Refused(Refusal),
 }
 
-#[derive(Drop)]
+#[derive(Clone, Copy)]
 pub enum Reply {
     Accepted,
     Byte(u8),
@@ -255,7 +257,7 @@ pub enum Reply {
 }
 
 // What the lent buffers say of the command that comes: a read always proceeds, a program or an erase where its page and block allow it.
-#[derive(Drop)]
+#[derive(Clone, Copy)]
 pub struct Findings {
     pub proceeds: bool,
     // the block that is to be programmed or erased is blank
@@ -263,7 +265,7 @@ pub struct Findings {
 }
 
 // What an accepted event does to the lent buffers.
-#[derive(Drop)]
+#[derive(Clone, Copy)]
 pub enum Work {
     Nothing,
     // every register

@@ -10,7 +10,7 @@ use crate::{Column, FeatureBytes, Fill, First, Row, Second, Sequence};
 
 // A whole column; `asks` says that no row follows, so that 5 is asked of the selected LUN with it; `page` that it is one of the
 // parameter page.
-#[derive(Drop)]
+#[derive(Clone, Copy)]
 pub struct ColumnGiven {
     pub column: Column,
     pub asks: bool,
@@ -18,21 +18,21 @@ pub struct ColumnGiven {
 }
 
 // A whole row, and the command that it belongs to.
-#[derive(Drop)]
+#[derive(Clone, Copy)]
 pub struct RowGiven {
     pub first: First,
     pub row: Row,
 }
 
 // The one address of a command that has no more.
-#[derive(Drop)]
+#[derive(Clone, Copy)]
 pub struct SingleGiven {
     pub first: First,
     pub value: u8,
 }
 
 // What an address cycle completes.
-#[derive(Drop)]
+#[derive(Clone, Copy)]
 pub enum Given {
     Nothing,
     Column(ColumnGiven),
@@ -41,7 +41,7 @@ pub enum Given {
 }
 
 // What takes the data-in cycles.
-#[derive(Drop)]
+#[derive(Clone, Copy)]
 pub enum Taker {
     Nothing,
     Program(Fill),
@@ -49,7 +49,7 @@ pub enum Taker {
 }
 
 // A second command that fits, with the command that opened the sequence and the addresses that it has.
-#[derive(Drop)]
+#[derive(Clone, Copy)]
 pub struct Ended {
     pub first: First,
     pub second: Second,
@@ -58,7 +58,7 @@ pub struct Ended {
 }
 
 // The second command that ends the sequence.
-#[derive(Drop)]
+#[derive(Clone, Copy)]
 pub enum Ender {
     Nothing,
     By(Ended),

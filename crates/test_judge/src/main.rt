@@ -1,6 +1,8 @@
 // The generator of judge/generate.c, run over the proved target. It makes the same traces by the same random numbers, and writes
 // the same lines; the file `stdout` has those of the plain C model. SEED and COUNT may be given, and before them
 // -t PART KIND: then only that line, with what happens on the way.
+#![tactic(auto)]
+
 use test_judge_lines::cases::run_power_line;
 use test_judge_lines::lines::run_line;
 use test_judge_parts::place;

@@ -1,4 +1,6 @@
 // The generator's records, bus cycles and addresses.
+#![tactic(auto)]
+
 use test_judge_parts::random::{below, half, sometimes};
 use test_judge_parts::state::{State, number, put_byte};
 use test_judge_parts::{field, knob, place};

@@ -1,4 +1,6 @@
 // The generator's jobs: whole command sequences.
+#![tactic(auto)]
+
 use test_judge_cycles::{
     address, begin_work, command, cycle, is_busy, make_all_ready, make_ready, pick_column,
     pick_length, pick_lun, pick_row, put, put_column, put_finish, put_reset, put_row, row_of, spot,

@@ -1,4 +1,6 @@
 // The generator of judge/generate.c in Rattle, its first part: the state that it keeps, random numbers, what it writes, and parts.
+#![tactic(auto)]
+
 pub mod field;
 pub mod knob;
 pub mod parts;

@@ -1,7 +1,7 @@
 // The parts and the kinds of traces, as judge/generate.c has them.
 
 // data, spare, pages, blocks, LUNs, programs, options, fill, counts, flags
-#[derive(Drop)]
+#[derive(Clone, Copy)]
 pub struct PartRow(
     pub usize,
     pub usize,
@@ -45,7 +45,7 @@ pub fn part_row(part: usize) -> PartRow {
 }
 
 // traces, records, step, care, sprinkle, edge, spot, past, long, bad, guard, reset, short, odd, wrong, spoil
-#[derive(Drop)]
+#[derive(Clone, Copy)]
 pub struct KnobRow(
     pub usize,
     pub usize,

@@ -1,4 +1,6 @@
 // The generator's runs: the proved model, lent what the state says, and what it answers.
+#![tactic(auto)]
+
 use power::{Powered, power_number};
 use slices::part_of;
 use step::Stepped;

@@ -1,4 +1,6 @@
 // The generator's spoiled records, each with one number that no run gives it, and their legal neighbours.
+#![tactic(auto)]
+
 use target::sizes::page_size;
 use target::{
     Column, ColumnCycles, Decoder, FeatureBytes, Fill, First, Geometry, Lun, Moved, Output, Row,

@@ -1,3 +1,5 @@
 // The generator's traces: jobs one after the other, wrong cycles, and noise.
+#![tactic(auto)]
+
 mod polls;
 pub mod traces;

@@ -18,7 +18,7 @@ pub fn load(path: &[u8], to: &mut [u8]) -> usize
 }
 
 // How far a text of hex digits has come.
-#[derive(Drop)]
+#[derive(Clone, Copy)]
 struct Digits {
     // bytes that are whole
     at: usize,

@@ -1,5 +1,7 @@
 // The proved model, lent the first so many bytes of each buffer: the test programs hold larger ones, and say how much of them a
 // part has.
+#![tactic(auto)]
+
 use power::{Powered, power_on};
 use step::{Stepped, step};
 use target::{Event, Target};
@@ -7,7 +9,7 @@ use test_kit::numbers::count;
 use trace::{Ran, run};
 
 // How many bytes of each buffer are lent.
-#[derive(Drop)]
+#[derive(Clone, Copy)]
 pub struct Lengths {
     pub page: usize,
     pub array: usize,

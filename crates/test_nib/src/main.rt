@@ -1,6 +1,8 @@
 // Every command of nib that takes an input or a file, one after the other, as data/commands says, on the files of data/.
 // `nib` itself runs `demo`. A line is the command's words, at will a comma and a remark, then " < " and the file that is
 // the input.
+#![tactic(auto)]
+
 use nib_app::act;
 use nib_args::asked_of;
 use slices::part_of;

@@ -1,5 +1,7 @@
 // Runs the parameter page's functions and power-on on many pages, and writes a line for each. The file `stdout` has the lines
 // that tools/expect/pages.py, a second program written from document 01's words, expects; it has the same list of cases.
+#![tactic(auto)]
+
 mod cases;
 mod crcs;
 mod makers;

@@ -3,7 +3,7 @@ use page::crc::page_crc;
 use test_kit::numbers::{byte, count, times};
 
 // The sizes of a part and what else its page says.
-#[derive(Drop)]
+#[derive(Clone, Copy)]
 pub struct Part {
     pub data: usize,
     pub spare: usize,
@@ -19,7 +19,7 @@ pub struct Part {
 }
 
 // What is done to a case.
-#[derive(Drop)]
+#[derive(Clone, Copy)]
 pub struct Harm {
     // page bytes lent
     pub length: usize,
@@ -40,7 +40,7 @@ pub struct Harm {
     pub flag: u8,
 }
 
-#[derive(Drop)]
+#[derive(Clone, Copy)]
 pub struct Lengths {
     pub array: usize,
     pub registers: usize,

@@ -1,5 +1,6 @@
 // Runs the table 'state × event → answer' that tools/expect/cases.py writes, and its cases, over the proved model, and compares every
 // answer. The table's form stands in tools/expect/cases.py.
+#![tactic(auto)]
 
 use power::unpowered;
 use slices::fill;

@@ -1,5 +1,7 @@
 // Runs one long trace all three ways, as a byte trace, in batches of events held as records, and one event at a time over a
 // record that is lent, and compares every reply and every buffer. Part and trace are files of data/.
+#![tactic(auto)]
+
 use in_place::{run_some, step_lent};
 use power::{power_number, power_on};
 use target::{Event, Target, reply_first, reply_second};

@@ -117,7 +117,7 @@ fn lesser(a: usize, b: usize) -> usize
 }
 
 // How many records were run, and the record of the target after them.
-#[derive(Drop)]
+#[derive(Clone, Copy)]
 pub struct Carry {
     pub target: Target,
     pub count: usize,

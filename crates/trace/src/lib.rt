@@ -1,4 +1,6 @@
 // Byte traces: two-byte records in, two-byte replies out, over the proved step.
+#![tactic(auto)]
+
 mod bursts;
 
 ghost use Rattle.std.specs.Prelude.{◌≡◌, ◌+◌, ◌*◌, ◌/◌, ◌%◌, ◌≤◌, ◌<◌, length, get_or, eqb, ltb};
@@ -15,14 +17,14 @@ use step::{Stepped, steady};
 use target::{Decoder, Event, Output, Refusal, Reply, Target, reply_first, reply_second};
 
 // What a run of a trace or a batch answers as a whole.
-#[derive(Drop)]
+#[derive(Clone, Copy)]
 pub enum RunAnswer {
     Done,
     // 16
     NoRoom,
 }
 
-#[derive(Drop)]
+#[derive(Clone, Copy)]
 pub struct Ran {
     pub answer: RunAnswer,
     pub target: Target,

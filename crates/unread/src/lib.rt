@@ -1,4 +1,6 @@
 // The unread rest of the present output: a part of one of two lent slices, returned.
+#![tactic(auto)]
+
 ghost use Rattle.std.specs.Prelude.{◌≡◌, true};
 ghost use Rattle.target.specs.Pick.{pick};
 ghost use Rattle.target.specs.Sizes.{in_limits};
@@ -14,7 +16,7 @@ use target::sizes::page_size;
 use target::{Decoder, Geometry, Luns, Output, Target};
 
 // Which lent buffer a part is of.
-#[derive(Drop)]
+#[derive(Clone, Copy)]
 pub enum Source {
     Nothing,
     Registers,
@@ -22,7 +24,7 @@ pub enum Source {
 }
 
 // A part: the `count` bytes of `source` from `at` on.
-#[derive(Drop)]
+#[derive(Clone, Copy)]
 pub struct Unread {
     pub source: Source,
     pub at: usize,
