@@ -1,6 +1,6 @@
 // nib, the bench at the command line.
 #![tactic(auto)]
 
-fn main() {
-    nib_app::nib();
+fn main(rt: HostRuntime) {
+    nib_app::nib(rt);
 }

@@ -1,8 +1,8 @@
 // The parts that have a name, and the version.
-use libc::{STDERR_FILENO, STDOUT_FILENO};
 use nib_args::is_word;
-use nib_print::pen::{Paper, begin, end_line, flush, number, put, text};
+use nib_print::pen::{Paper, To, begin, end_line, flush, number, put, text};
 use nib_speech::version_number;
+use std::io::Write;
 
 // A maker's part: its array is more than nib holds.
 pub fn is_maker_s(name: &[u8]) -> bool {
@@ -14,18 +14,17 @@ pub fn is_maker_s(name: &[u8]) -> bool {
         | is_word(name, b"MT29F256G08AUAAAC5")
 }
 
-pub fn too_large(name: &[u8]) {
-    io::write_all(STDERR_FILENO, b"nib: ");
-    io::write_all(STDERR_FILENO, name);
-    io::write_all(
-        STDERR_FILENO,
+pub fn too_large(rt: HostRuntime, name: &[u8]) {
+    let _ = rt.stderr().write_all(b"nib: ");
+    let _ = rt.stderr().write_all(name);
+    let _ = rt.stderr().write_all(
         b": the part is more than nib holds; python3 -m nibtoggle new makes it\n",
     );
 }
 
 // `nib parts`.
-pub fn show_parts(out: &mut Paper) {
-    let p = begin(STDOUT_FILENO);
+pub fn show_parts(rt: HostRuntime, out: &mut Paper) {
+    let p = begin(rt, To::Output);
     let p = text(
         out,
         p,
@@ -45,9 +44,9 @@ pub fn show_parts(out: &mut Paper) {
 }
 
 // `nib version`.
-pub fn show_version(out: &mut Paper) {
+pub fn show_version(rt: HostRuntime, out: &mut Paper) {
     let v = version_number() as usize;
-    let p = begin(STDOUT_FILENO);
+    let p = begin(rt, To::Output);
     let p = text(out, p, b"nib ");
     let p = number(out, p, v / 65536);
     let p = put(out, p, b'.');

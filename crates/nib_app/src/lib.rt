@@ -11,6 +11,7 @@ use known::{is_maker_s, show_parts, show_version, too_large};
 use nib_args::{Asked, allowed, asked_of, is_word};
 use nib_check::show_check;
 use nib_demo::demo::tell;
+use nib_files::files::Source;
 use nib_files::part::{
     Array, Counts, Flags, Page, Part, Registers, T1_ID, make, no_part, no_shape, planned,
     read_page, shape_of, t1, to_t2, to_w,
@@ -19,13 +20,15 @@ use nib_jobs::tell_jobs;
 use nib_look::diff::diff;
 use nib_look::dump::dump;
 use nib_page::pages::show_page;
-use nib_print::pen::{Paper, begin, count, flush, text};
+use nib_print::pen::{Paper, To, begin, count, flush, text};
 use nib_run::running::{Telling, on_folder};
 use nib_scripts::test_folder;
 use nib_translate::texts::{from_text, to_text};
+use std::env::{Env, FillError};
+use std::io::Write;
 
-fn usage(fd: i32, out: &mut Paper) {
-    let p = begin(fd);
+fn usage(rt: HostRuntime, to: To, out: &mut Paper) {
+    let p = begin(rt, to);
     let p = text(
         out,
         p,
@@ -53,23 +56,23 @@ fn usage(fd: i32, out: &mut Paper) {
 }
 
 // A part by name, or of the page in a file. The page that is lent is T1's.
-fn part_of(name: &[u8], page: &mut Page) -> Part {
+fn part_of(rt: HostRuntime, name: &[u8], page: &mut Page) -> Part {
     if is_word(name, b"T1") {
-        return planned(name, page, T1_ID);
+        return planned(rt, name, page, T1_ID);
     }
     if is_word(name, b"T2") {
         to_t2(page);
-        return planned(name, page, T1_ID);
+        return planned(rt, name, page, T1_ID);
     }
     if is_word(name, b"W") {
         to_w(page);
-        return planned(name, page, T1_ID);
+        return planned(rt, name, page, T1_ID);
     }
     if is_maker_s(name) {
-        too_large(name);
+        too_large(rt, name);
         return no_part();
     }
-    read_page(name, page)
+    read_page(rt, name, page)
 }
 
 // What a command works on. A function with few calls is proved faster than one with many, so each has its own.
@@ -115,15 +118,16 @@ fn work_of(asked: Asked) -> Work {
 }
 
 // The part of a new folder. A page does not say its part's device ID: it is 0 until the folder's owner puts another.
-fn new_part(asked: Asked, third: &[u8], page: &mut Page) -> Part {
+fn new_part(rt: HostRuntime, asked: Asked, third: &[u8], page: &mut Page) -> Part {
     match asked {
-        Asked::NewFrom => part_of(third, page),
-        _ => planned(b"T1", page, T1_ID),
+        Asked::NewFrom => part_of(rt, third, page),
+        _ => planned(rt, b"T1", page, T1_ID),
     }
 }
 
 // `new`.
 fn make_new(
+    rt: HostRuntime,
     asked: Asked,
     second: &[u8],
     third: &[u8],
@@ -134,18 +138,19 @@ fn make_new(
     flags: &Flags,
 ) {
     let may = allowed(asked);
-    let part = new_part(asked, third, page);
+    let part = new_part(rt, asked, third, page);
     if part.good & may.make {
-        make(second, page, part, array, counts, flags, out);
+        make(rt, second, page, part, array, counts, flags, out);
     }
 }
 
 // `run` and `explain`.
 fn run_part(
+    rt: HostRuntime,
     asked: Asked,
     second: &[u8],
     third: &[u8],
-    input: i32,
+    input: &mut Source,
     out: &mut Paper,
     page: &mut Page,
     array: &mut Array,
@@ -156,6 +161,7 @@ fn run_part(
     let may = allowed(asked);
     match asked {
         Asked::Run => on_folder(
+            rt,
             second,
             may,
             Telling::Replies,
@@ -168,6 +174,7 @@ fn run_part(
             flags,
         ),
         Asked::ExplainEach => on_folder(
+            rt,
             third,
             may,
             Telling::Each,
@@ -180,6 +187,7 @@ fn run_part(
             flags,
         ),
         _ => on_folder(
+            rt,
             second,
             may,
             Telling::Folded,
@@ -196,6 +204,7 @@ fn run_part(
 
 // `dump`, `diff` and `page`.
 fn look_at_part(
+    rt: HostRuntime,
     asked: Asked,
     second: &[u8],
     third: &[u8],
@@ -210,34 +219,42 @@ fn look_at_part(
 ) {
     match asked {
         Asked::Dump => dump(
-            second, third, fourth, fifth, out, page, array, counts, flags,
+            rt, second, third, fourth, fifth, out, page, array, counts, flags,
         ),
-        Asked::Diff => diff(second, third, out, page, array, counts, flags),
-        _ => show_page(second, out, page, array, registers, counts, flags),
+        Asked::Diff => diff(rt, second, third, out, page, array, counts, flags),
+        _ => show_page(rt, second, out, page, array, registers, counts, flags),
     }
 }
 
 // `jobs`. The trace stands where a part's array would.
-fn jobs_of(asked: Asked, second: &[u8], input: i32, out: &mut Paper, array: &mut Array) {
+fn jobs_of(
+    rt: HostRuntime,
+    asked: Asked,
+    second: &[u8],
+    input: &mut Source,
+    out: &mut Paper,
+    array: &mut Array,
+) {
     match asked {
         Asked::JobsOn => {
-            let part = shape_of(second);
+            let part = shape_of(rt, second);
             if part.good {
-                tell_jobs(part, input, array, out);
+                tell_jobs(rt, part, input, array, out);
             }
         }
-        _ => tell_jobs(no_shape(), input, array, out),
+        _ => tell_jobs(rt, no_shape(), input, array, out),
     }
 }
 
 // The commands that have a part, or need as much room, over its buffers.
 fn with_part(
+    rt: HostRuntime,
     asked: Asked,
     second: &[u8],
     third: &[u8],
     fourth: &[u8],
     fifth: &[u8],
-    input: i32,
+    input: &mut Source,
     out: &mut Paper,
     page: &mut Page,
     array: &mut Array,
@@ -247,11 +264,12 @@ fn with_part(
 ) {
     match work_of(asked) {
         Work::NoPart => {}
-        Work::Make => make_new(asked, second, third, out, page, array, counts, flags),
+        Work::Make => make_new(rt, asked, second, third, out, page, array, counts, flags),
         Work::Run => run_part(
-            asked, second, third, input, out, page, array, registers, counts, flags,
+            rt, asked, second, third, input, out, page, array, registers, counts, flags,
         ),
         Work::Test => test_folder(
+            rt,
             second,
             allowed(asked),
             input,
@@ -263,21 +281,22 @@ fn with_part(
             flags,
         ),
         Work::Look => look_at_part(
-            asked, second, third, fourth, fifth, out, page, array, registers, counts, flags,
+            rt, asked, second, third, fourth, fifth, out, page, array, registers, counts, flags,
         ),
-        Work::Jobs => jobs_of(asked, second, input, out, array),
-        Work::Demo => tell(out, page, array, registers, counts, flags),
+        Work::Jobs => jobs_of(rt, asked, second, input, out, array),
+        Work::Demo => tell(rt, out, page, array, registers, counts, flags),
     }
 }
 
 // The buffers of a part stand here alone, and this is called in one place, since the stack has no room for two sets.
 fn on_part(
+    rt: HostRuntime,
     asked: Asked,
     second: &[u8],
     third: &[u8],
     fourth: &[u8],
     fifth: &[u8],
-    input: i32,
+    input: &mut Source,
     out: &mut Paper,
 ) {
     let mut page = t1();
@@ -286,6 +305,7 @@ fn on_part(
     let mut counts = [0u8; 262144];
     let mut flags = [0u8; 16384];
     with_part(
+        rt,
         asked,
         second,
         third,
@@ -301,81 +321,97 @@ fn on_part(
     )
 }
 
-fn wrong(out: &mut Paper) {
-    io::write_all(libc::STDERR_FILENO, b"nib: no such call; these are:\n");
-    usage(libc::STDERR_FILENO, out);
+fn wrong(rt: HostRuntime, out: &mut Paper) {
+    let _ = rt.stderr().write_all(b"nib: no such call; these are:\n");
+    usage(rt, To::Errors, out);
 }
 
 // `nib text DIR`.
-fn text_on(dir: &[u8], input: i32, out: &mut Paper) {
-    let part = shape_of(dir);
+fn text_on(rt: HostRuntime, dir: &[u8], input: &mut Source, out: &mut Paper) {
+    let part = shape_of(rt, dir);
     if part.good {
-        from_text(part, input, out);
+        from_text(rt, part, input, out);
     }
 }
 
-fn without_part(asked: Asked, second: &[u8], input: i32, out: &mut Paper) {
+fn without_part(rt: HostRuntime, asked: Asked, second: &[u8], input: &mut Source, out: &mut Paper) {
     match asked {
-        Asked::Text => from_text(no_shape(), input, out),
-        Asked::TextOn => text_on(second, input, out),
-        Asked::Back => to_text(input, out),
-        Asked::Check => show_check(second, out),
-        Asked::Parts => show_parts(out),
-        Asked::Version => show_version(out),
-        Asked::Help => usage(libc::STDOUT_FILENO, out),
-        _ => wrong(out),
+        Asked::Text => from_text(rt, no_shape(), input, out),
+        Asked::TextOn => text_on(rt, second, input, out),
+        Asked::Back => to_text(rt, input, out),
+        Asked::Check => show_check(rt, second, out),
+        Asked::Parts => show_parts(rt, out),
+        Asked::Version => show_version(rt, out),
+        Asked::Help => usage(rt, To::Output, out),
+        _ => wrong(rt, out),
     }
 }
 
 // One command, with the words after it, over an input that is open.
 pub fn act(
+    rt: HostRuntime,
     asked: Asked,
     second: &[u8],
     third: &[u8],
     fourth: &[u8],
     fifth: &[u8],
-    input: i32,
+    input: &mut Source,
     out: &mut Paper,
 ) {
     match work_of(asked) {
-        Work::NoPart => without_part(asked, second, input, out),
-        _ => on_part(asked, second, third, fourth, fifth, input, out),
+        Work::NoPart => without_part(rt, asked, second, input, out),
+        _ => on_part(rt, asked, second, third, fourth, fifth, input, out),
     }
 }
 
 // An argument. Of one that is too long there is as much as makes a path that is refused in its own words.
-fn argument(i: usize, s: &mut [u8]) -> usize
+fn argument(rt: HostRuntime, i: usize, s: &mut [u8]) -> usize
     ensures { Counted result s.new }
 {
-    let n = os::arg(i, s);
-    if os::errno() == libc::ENAMETOOLONG {
-        count(4096, s)
-    } else {
-        count(n, s)
+    match rt.arg(i, s) {
+        Ok(n) => count(n, s),
+        Err(FillError::NotPresent) => count(0, s),
+        Err(FillError::TooLong) => count(4096, s),
     }
 }
 
+// How many arguments there are, of the first seven; a word may be empty.
+fn argument_count(rt: HostRuntime) -> usize {
+    let mut word = [0u8; 4096];
+    let mut n = 0;
+    for i in 0..7usize {
+        match rt.arg(i, &mut word) {
+            Ok(_) => n = i + 1,
+            Err(FillError::TooLong) => n = i + 1,
+            Err(FillError::NotPresent) => {}
+        }
+    }
+    n
+}
+
 // The program.
-pub fn nib() {
+pub fn nib(rt: HostRuntime) {
     let mut out = [0u8; 65536];
     let mut first = [0u8; 4096];
     let mut second = [0u8; 4096];
     let mut third = [0u8; 4096];
     let mut fourth = [0u8; 4096];
     let mut fifth = [0u8; 4096];
-    let a = argument(1, &mut first);
-    let b = argument(2, &mut second);
-    let c = argument(3, &mut third);
-    let d = argument(4, &mut fourth);
-    let e = argument(5, &mut fifth);
-    let asked = asked_of(os::arg_count(), &first[..a], &second[..b], &third[..c]);
+    let a = argument(rt, 1, &mut first);
+    let b = argument(rt, 2, &mut second);
+    let c = argument(rt, 3, &mut third);
+    let d = argument(rt, 4, &mut fourth);
+    let e = argument(rt, 5, &mut fifth);
+    let asked = asked_of(argument_count(rt), &first[..a], &second[..b], &third[..c]);
+    let mut input = Source::Standard(rt.stdin());
     act(
+        rt,
         asked,
         &second[..b],
         &third[..c],
         &fourth[..d],
         &fifth[..e],
-        libc::STDIN_FILENO,
+        &mut input,
         &mut out,
     );
 }

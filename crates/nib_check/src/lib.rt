@@ -1,12 +1,15 @@
 // `nib check`: which rules the pages of an answer to ECh break.
 #![tactic(auto)]
 
-use libc::{STDERR_FILENO, STDOUT_FILENO};
-use nib_print::pen::{Paper, Pen, begin, end_line, failed, flush, number, pad, put, text};
+ghost use Rattle.std.specs.Prelude.{◌≤◌, length, IfOk};
+
+use nib_files::files::{open, read_and_more};
+use nib_print::pen::{Paper, Pen, To, begin, end_line, failed, flush, number, pad, put, text};
 use page::fields::{data_bytes, lun_count, pages_a_block, programs_a_page};
 use page_check::endurance::Endurance;
 use page_check::page_rules::{Broken, multiplier};
 use page_check::{Checked, Found, check_answer};
+use std::io::{Error, Write};
 
 // A comma before every third digit from the end, the first apart.
 fn comma(out: &mut Paper, p: Pen, i: usize, left: usize) -> Pen {
@@ -142,10 +145,10 @@ fn rule_lines(out: &mut Paper, p: Pen, page: &[u8], b: Broken) -> Pen {
     rule_at(out, p, page, b, 4)
 }
 
-fn copy_told(out: &mut Paper, c: Checked, k: usize, page: &[u8]) {
+fn copy_told(rt: HostRuntime, out: &mut Paper, c: Checked, k: usize, page: &[u8]) {
     let b = c.broken;
     let e = c.endurance;
-    let p = begin(STDOUT_FILENO);
+    let p = begin(rt, To::Output);
     let p = copy_line(out, p, k);
     let p = endurance_line(out, p, e);
     let p = rule_lines(out, p, page, b);
@@ -153,69 +156,65 @@ fn copy_told(out: &mut Paper, c: Checked, k: usize, page: &[u8]) {
 }
 
 // The copy that was checked, 0 to 2.
-fn told(out: &mut Paper, c: Checked, k: usize, answer: &[u8]) {
+fn told(rt: HostRuntime, out: &mut Paper, c: Checked, k: usize, answer: &[u8]) {
     let from = k % 3 * 256;
     let to = from + 256;
     if to <= answer.len() {
-        copy_told(out, c, k, &answer[from..to]);
+        copy_told(rt, out, c, k, &answer[from..to]);
     }
 }
 
 // One line on standard error.
-fn complain(path: &[u8], words: &[u8]) {
-    io::write_all(STDERR_FILENO, b"nib: ");
-    io::write_all(STDERR_FILENO, path);
-    io::write_all(STDERR_FILENO, words);
+fn complain(rt: HostRuntime, path: &[u8], words: &[u8]) {
+    let _ = rt.stderr().write_all(b"nib: ");
+    let _ = rt.stderr().write_all(path);
+    let _ = rt.stderr().write_all(words);
 }
 
-fn complain_of_length(path: &[u8], n: usize) {
+fn complain_of_length(rt: HostRuntime, path: &[u8], n: usize) {
     if n == 256 {
         complain(
+            rt,
             path,
             b": one copy of a page, 256 bytes; a part answers ECh with three, and `nib page` shows one\n",
         );
         return;
     }
-    complain(path, b": has ");
-    io::print_decimal(STDERR_FILENO, n as u64);
+    complain(rt, path, b": has ");
+    let _ = eprint!(rt; "{n}");
     if n == 4096 {
-        io::write_all(STDERR_FILENO, b" or more");
+        let _ = rt.stderr().write_all(b" or more");
     }
-    io::write_all(
-        STDERR_FILENO,
-        b" bytes, and an answer to ECh has 768: the page three times\n",
-    );
+    let _ = rt.stderr().write_all(b" bytes, and an answer to ECh has 768: the page three times\n");
 }
 
-fn answered(path: &[u8], answer: &[u8], out: &mut Paper) {
+fn answered(rt: HostRuntime, path: &[u8], answer: &[u8], out: &mut Paper) {
     let c = check_answer(answer);
     let found = c.found;
     match found {
-        Found::Length => complain_of_length(path, answer.len()),
+        Found::Length => complain_of_length(rt, path, answer.len()),
         Found::NoGoodCopy => complain(
+            rt,
             path,
             b": no good copy: none of the three has good signature and CRC\n",
         ),
-        Found::Copy(k) => told(out, c, k, answer),
+        Found::Copy(k) => told(rt, out, c, k, answer),
     }
 }
 
+fn answer_read(rt: HostRuntime, path: &[u8], answer: &mut [u8]) -> Result<usize, Error>
+    ensures { IfOk result (λ n. n ≤ length answer.new) }
+{
+    let mut file = open(rt, path)?;
+    let (n, _) = read_and_more(&mut file, answer)?;
+    Ok(n)
+}
+
 // `nib check`.
-pub fn show_check(path: &[u8], out: &mut Paper) {
-    let fd = os::open_read(path);
-    if fd < 0 {
-        failed(path);
-        return;
-    }
+pub fn show_check(rt: HostRuntime, path: &[u8], out: &mut Paper) {
     let mut answer = [0u8; 4096];
-    let n = io::read_full(fd, &mut answer);
-    let mut more = [0u8; 1];
-    let last = libc::read(fd, &mut more);
-    if last < 0 {
-        failed(path);
-        libc::close(fd);
-        return;
+    match answer_read(rt, path, &mut answer) {
+        Ok(n) => answered(rt, path, &answer[..n], out),
+        Err(e) => failed(rt, path, &e),
     }
-    libc::close(fd);
-    answered(path, &answer[..n], out);
 }

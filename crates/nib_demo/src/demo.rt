@@ -1,7 +1,6 @@
 // `nib demo`: two stations save a preset at once, on part T1 in memory, with program-clear on and then off.
-use libc::{STDIN_FILENO, STDOUT_FILENO};
 use nib_files::part::{Array, Counts, Flags, Page, Part, Registers, T1_ID, planned, power};
-use nib_print::pen::{Paper, Pen, begin, byte, end_line, flush, put, text};
+use nib_print::pen::{Paper, Pen, To, begin, byte, end_line, flush, put, text};
 use nib_run::running::{Stream, Telling, bytes, set_out};
 use slices::{byte_at, fill};
 
@@ -174,10 +173,11 @@ fn fresh(
     fill(counts, 0);
     let on = power(part, page, array, registers, counts, flags);
     let t = on.target;
-    set_out(t, p, Telling::Each, STDIN_FILENO)
+    set_out(t, p, Telling::Each)
 }
 
 fn telling(
+    rt: HostRuntime,
     p: Pen,
     on: bool,
     records: &[u8],
@@ -188,7 +188,7 @@ fn telling(
     counts: &mut Counts,
     flags: &Flags,
 ) -> Pen {
-    let part = planned(b"T1", page, T1_ID);
+    let part = planned(rt, b"T1", page, T1_ID);
     let s = fresh(p, part, page, array, registers, counts, flags);
     let p = scenes(
         s, on, records, out, part, page, array, registers, counts, flags,
@@ -197,6 +197,7 @@ fn telling(
 }
 
 pub fn tell(
+    rt: HostRuntime,
     out: &mut Paper,
     page: &Page,
     array: &mut Array,
@@ -205,14 +206,14 @@ pub fn tell(
     flags: &Flags,
 ) {
     let records = RECORDS;
-    let p = begin(STDOUT_FILENO);
+    let p = begin(rt, To::Output);
     let p = text(
         out,
         p,
         b"== Program-clear on: 80h clears the register of the LUN that it names.\n",
     );
     let p = telling(
-        p, true, &records, out, page, array, registers, counts, flags,
+        rt, p, true, &records, out, page, array, registers, counts, flags,
     );
     let p = text(
         out,
@@ -220,6 +221,6 @@ pub fn tell(
         b"\n== Program-clear off: 80h clears every register.\n",
     );
     telling(
-        p, false, &records, out, page, array, registers, counts, flags,
+        rt, p, false, &records, out, page, array, registers, counts, flags,
     );
 }

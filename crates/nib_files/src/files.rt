@@ -1,9 +1,12 @@
 // Files by folder and name. Each function that fails says so on standard error, in a line that names the file, and answers
 // false.
+ghost use Rattle.std.specs.Prelude.{◌≤◌, length, IfOk};
 ghost use Rattle.io.specs.Counts.{IsPrefixLen};
 
-use libc::STDERR_FILENO;
 use nib_print::pen::{count, failed};
+use std::fs;
+use std::fs::{File, OpenOptions};
+use std::io::{Error, ErrorKind, Read, Stdin, Write};
 
 pub type Path = [u8; 4096];
 
@@ -37,25 +40,90 @@ pub fn join(path: &mut Path, dir: &[u8], name: &[u8]) -> usize
     count(n, path)
 }
 
+// Where bytes come from: standard input, or a file that stands for it.
+#[derive(Drop)]
+pub enum Source {
+    Standard(Stdin),
+    Named(File),
+}
+
+impl Read for Source {
+    fn read(&mut self, buf: &mut [u8]) -> Result<usize, Error> {
+        match self {
+            Source::Standard(input) => input.read(buf),
+            Source::Named(file) => file.read(buf),
+        }
+    }
+}
+
+// A path as text: std opens no other.
+pub fn text_of(path: &[u8]) -> Result<&str, Error> {
+    match std::str::from_utf8(path) {
+        Ok(text) => Ok(text),
+        Err(_) => Err(Error::from(ErrorKind::InvalidFilename)),
+    }
+}
+
+pub fn open(rt: HostRuntime, path: &[u8]) -> Result<File, Error> {
+    File::open(&rt, text_of(path)?)
+}
+
 // A line of the program's own: the path, words, a number, words.
-pub fn complain(path: &[u8], words: &[u8], n: usize, more: &[u8]) {
-    io::write_all(STDERR_FILENO, b"nib: ");
-    io::write_all(STDERR_FILENO, path);
-    io::write_all(STDERR_FILENO, words);
-    io::print_decimal(STDERR_FILENO, n as u64);
-    io::write_all(STDERR_FILENO, more);
+pub fn complain(rt: HostRuntime, path: &[u8], words: &[u8], n: usize, more: &[u8]) {
+    let _ = complained(rt, path, words, n, more);
 }
 
-fn complain_of_length(path: &[u8], got: usize, due: usize) {
-    complain(path, b": has ", got, b" bytes, and should have ");
-    io::print_decimal(STDERR_FILENO, due as u64);
-    io::write_all(STDERR_FILENO, b"\n");
+fn complained(
+    rt: HostRuntime,
+    path: &[u8],
+    words: &[u8],
+    n: usize,
+    more: &[u8],
+) -> Result<(), Error> {
+    let mut to = rt.stderr();
+    to.write_all(b"nib: ")?;
+    to.write_all(path)?;
+    to.write_all(words)?;
+    write!(to, "{n}")?;
+    to.write_all(more)
 }
 
-// One byte more of a file than was due: 1 if there is one, 0 if not, -1 where it can't be read.
-pub fn one_more(fd: i32) -> isize {
+fn complain_of_length(rt: HostRuntime, path: &[u8], got: usize, due: usize) {
+    complain(rt, path, b": has ", got, b" bytes, and should have ");
+    let _ = eprintln!(rt; "{due}");
+}
+
+// Reads until the buffer is full or the input ends.
+pub fn read_full<R: Read>(input: &mut R, buf: &mut [u8]) -> Result<usize, Error>
+    ensures { IfOk result (λ n. n ≤ length buf.new) }
+{
+    let mut at = 0;
+    for _ in 0..u64::MAX {
+        if at >= buf.len() {
+            break;
+        }
+        let n = input.read(&mut buf[at..])?;
+        if n == 0 {
+            break;
+        }
+        at += n;
+    }
+    Ok(at)
+}
+
+// One byte more of a file than was due: 1 if there is one, 0 if not.
+pub fn one_more<R: Read>(input: &mut R) -> Result<usize, Error> {
     let mut more = [0u8; 1];
-    libc::read(fd, &mut more)
+    input.read(&mut more)
+}
+
+// How many bytes came, and how many behind them.
+pub fn read_and_more<R: Read>(input: &mut R, whole: &mut [u8]) -> Result<(usize, usize), Error>
+    ensures { IfOk result (λ read. read.0 ≤ length whole.new) }
+{
+    let n = read_full(input, whole)?;
+    let more = one_more(input)?;
+    Ok((n, more))
 }
 
 // All of an input: whether it was read and is held, and how long it is.
@@ -66,121 +134,146 @@ pub struct Input {
 }
 
 // An input into a slice that holds it. One that is longer is refused in words that name its kind and what holds more.
-pub fn read_input(input: i32, whole: &mut [u8], kind: &[u8], instead: &[u8]) -> Input {
-    let n = io::read_full(input, whole);
-    let more = one_more(input);
-    if more < 0 {
-        failed(b"standard input");
-        return Input { good: false, n: 0 };
+pub fn read_input(
+    rt: HostRuntime,
+    input: &mut Source,
+    whole: &mut [u8],
+    kind: &[u8],
+    instead: &[u8],
+) -> Input {
+    match read_and_more(input, whole) {
+        Err(e) => {
+            failed(rt, b"standard input", &e);
+            Input { good: false, n: 0 }
+        }
+        Ok((n, 0)) => Input { good: true, n },
+        Ok(_) => {
+            complain(rt, b"standard input", kind, whole.len(), instead);
+            Input { good: false, n: 0 }
+        }
     }
-    if 0 < more {
-        complain(b"standard input", kind, whole.len(), instead);
-        return Input { good: false, n: 0 };
-    }
-    Input { good: true, n }
 }
 
-fn read_due(fd: i32, path: &[u8], dst: &mut [u8], due: usize) -> bool {
+fn read_due(rt: HostRuntime, path: &[u8], dst: &mut [u8], due: usize) -> Result<bool, Error> {
     let m = count(due, dst);
-    let got = io::read_full(fd, &mut dst[..m]);
-    let more = one_more(fd);
-    if more < 0 {
-        failed(path);
-        return false;
-    }
+    let mut file = open(rt, path)?;
+    let (got, more) = read_and_more(&mut file, &mut dst[..m])?;
     if got < due {
-        complain_of_length(path, got, due);
-        return false;
+        complain_of_length(rt, path, got, due);
+        return Ok(false);
     }
     if 0 < more {
         complain(
+            rt,
             path,
             b": has more than the ",
             due,
             b" bytes that it should have\n",
         );
-        return false;
+        return Ok(false);
     }
-    true
+    Ok(true)
 }
 
-fn read_path(path: &[u8], dst: &mut [u8], due: usize) -> bool {
-    let fd = os::open_read(path);
-    if fd < 0 {
-        failed(path);
-        return false;
+fn read_path(rt: HostRuntime, path: &[u8], dst: &mut [u8], due: usize) -> bool {
+    match read_due(rt, path, dst, due) {
+        Ok(good) => good,
+        Err(e) => {
+            failed(rt, path, &e);
+            false
+        }
     }
-    let good = read_due(fd, path, dst, due);
-    libc::close(fd);
-    good
 }
 
 // The first `due` bytes of `dst` become the file, which has just so many.
-pub fn read_whole(dir: &[u8], name: &[u8], dst: &mut [u8], due: usize) -> bool {
+pub fn read_whole(rt: HostRuntime, dir: &[u8], name: &[u8], dst: &mut [u8], due: usize) -> bool {
     let mut path = [0u8; 4096];
     let n = join(&mut path, dir, name);
-    read_path(&path[..n], dst, due)
+    read_path(rt, &path[..n], dst, due)
 }
 
-fn write_open(fd: i32, path: &[u8], src: &[u8]) -> bool {
-    if !io::write_all(fd, src) {
-        failed(path);
-        return false;
+fn write_open(opened: File, src: &[u8]) -> Result<(), Error> {
+    let mut file = opened;
+    file.write_all(src)?;
+    file.sync_all()
+}
+
+fn unlink(rt: HostRuntime, path: &[u8]) {
+    if let Ok(text) = text_of(path) {
+        let _ = fs::remove_file(&rt, text);
     }
-    if libc::fsync(fd) < 0 {
-        failed(path);
-        return false;
-    }
-    true
 }
 
 // Writes and closes; what is not written whole is taken away again.
-fn write_path(fd: i32, path: &[u8], src: &[u8]) -> bool {
-    if fd < 0 {
-        failed(path);
-        return false;
+fn write_path(rt: HostRuntime, opened: Result<File, Error>, path: &[u8], src: &[u8]) -> bool {
+    match opened {
+        Err(e) => {
+            failed(rt, path, &e);
+            false
+        }
+        Ok(file) => match write_open(file, src) {
+            Ok(()) => true,
+            Err(e) => {
+                failed(rt, path, &e);
+                unlink(rt, path);
+                false
+            }
+        },
     }
-    let good = write_open(fd, path, src);
-    libc::close(fd);
-    if !good {
-        os::unlink(path);
-    }
-    good
+}
+
+fn opened_new(rt: HostRuntime, path: &[u8]) -> Result<File, Error> {
+    OpenOptions::new()
+        .write(true)
+        .create_new(true)
+        .open(&rt, text_of(path)?)
+}
+
+fn opened_over(rt: HostRuntime, path: &[u8]) -> Result<File, Error> {
+    OpenOptions::new()
+        .write(true)
+        .create(true)
+        .truncate(true)
+        .open(&rt, text_of(path)?)
 }
 
 // A new file, whose name must not be taken.
-pub fn create(dir: &[u8], name: &[u8], src: &[u8], n: usize) -> bool {
+pub fn create(rt: HostRuntime, dir: &[u8], name: &[u8], src: &[u8], n: usize) -> bool {
     let mut path = [0u8; 4096];
     let k = join(&mut path, dir, name);
     let m = count(n, src);
-    let fd = os::create(&path[..k]);
-    write_path(fd, &path[..k], &src[..m])
+    write_path(rt, opened_new(rt, &path[..k]), &path[..k], &src[..m])
 }
 
 // A file beside the one that is to be replaced; one of an earlier run that was cut off is written over.
-pub fn write_beside(dir: &[u8], name: &[u8], src: &[u8], n: usize) -> bool {
+pub fn write_beside(rt: HostRuntime, dir: &[u8], name: &[u8], src: &[u8], n: usize) -> bool {
     let mut path = [0u8; 4096];
     let k = join(&mut path, dir, name);
     let m = count(n, src);
-    let fd = os::open_overwrite(&path[..k]);
-    write_path(fd, &path[..k], &src[..m])
+    write_path(rt, opened_over(rt, &path[..k]), &path[..k], &src[..m])
 }
 
-pub fn remove(dir: &[u8], name: &[u8]) {
+pub fn remove(rt: HostRuntime, dir: &[u8], name: &[u8]) {
     let mut path = [0u8; 4096];
     let k = join(&mut path, dir, name);
-    os::unlink(&path[..k]);
+    unlink(rt, &path[..k]);
+}
+
+fn renamed(rt: HostRuntime, old: &[u8], new: &[u8]) -> Result<(), Error> {
+    fs::rename(&rt, text_of(old)?, text_of(new)?)
 }
 
 // The file takes the other name, and what had that name is gone.
-pub fn rename(dir: &[u8], from: &[u8], to: &[u8]) -> bool {
+pub fn rename(rt: HostRuntime, dir: &[u8], from: &[u8], to: &[u8]) -> bool {
     let mut old = [0u8; 4096];
     let k = join(&mut old, dir, from);
     let mut new = [0u8; 4096];
     let m = join(&mut new, dir, to);
-    if os::rename(&old[..k], &new[..m]) < 0 {
-        failed(&new[..m]);
-        return false;
+    match renamed(rt, &old[..k], &new[..m]) {
+        Ok(()) => true,
+        Err(e) => {
+            failed(rt, &new[..m], &e);
+            false
+        }
     }
-    true
 }

@@ -1,12 +1,17 @@
 // A part: its buffers, and the folder that holds it.
 use crate::fields::outside;
-use crate::files::{complain, create, join, one_more, read_whole, remove, rename, write_beside};
-use libc::{STDERR_FILENO, STDOUT_FILENO};
-use nib_print::pen::{Paper, Pen, begin, count, end_line, failed, flush, text};
+use crate::files::{
+    complain, create, join, one_more, open, read_full, read_whole, remove, rename, text_of,
+    write_beside,
+};
+use nib_print::pen::{Paper, Pen, To, begin, count, end_line, failed, flush, text};
 use nib_print::say::{power_sentence, with_number};
 use nib_sizes::{Known, Lengths, Plan, known_part, plan_of};
 use power::{PowerRefusal, Powered, power_on};
 use slices::copy;
+use std::fs;
+use std::fs::File;
+use std::io::{Error, ErrorKind};
 use target::{Geometry, Target};
 use trace::run;
 
@@ -96,9 +101,9 @@ fn fields_if(out: &mut Paper, p: Pen, field: bool, page: &[u8]) -> Pen {
 }
 
 // The line that tells of a refused power-on; where a field is outside its limits, it names the field.
-fn refuse_page(path: &[u8], why: PowerRefusal, page: &[u8]) {
+fn refuse_page(rt: HostRuntime, path: &[u8], why: PowerRefusal, page: &[u8]) {
     let mut out = [0u8; 65536];
-    let p = begin(STDERR_FILENO);
+    let p = begin(rt, To::Errors);
     let p = text(&mut out, p, b"nib: ");
     let p = text(&mut out, p, path);
     let p = text(&mut out, p, b": power-on ");
@@ -108,12 +113,13 @@ fn refuse_page(path: &[u8], why: PowerRefusal, page: &[u8]) {
     flush(&out, p);
 }
 
-pub fn refuse(path: &[u8], why: PowerRefusal) {
-    refuse_page(path, why, b"");
+pub fn refuse(rt: HostRuntime, path: &[u8], why: PowerRefusal) {
+    refuse_page(rt, path, why, b"");
 }
 
-fn refuse_large(path: &[u8], l: Lengths) {
+fn refuse_large(rt: HostRuntime, path: &[u8], l: Lengths) {
     complain(
+        rt,
         path,
         b": an array of ",
         l.array,
@@ -122,7 +128,7 @@ fn refuse_large(path: &[u8], l: Lengths) {
 }
 
 // The part that a page describes; where nib can't hold it, a line that names `path` says why.
-pub fn planned(path: &[u8], page: &[u8], device: u8) -> Part {
+pub fn planned(rt: HostRuntime, path: &[u8], page: &[u8], device: u8) -> Part {
     let plan = plan_of(page);
     match plan {
         Plan::Sizes(lengths) => Part {
@@ -131,32 +137,33 @@ pub fn planned(path: &[u8], page: &[u8], device: u8) -> Part {
             lengths,
         },
         Plan::Refused(why) => {
-            refuse_page(path, why, page);
+            refuse_page(rt, path, why, page);
             no_part()
         }
         Plan::TooLarge(l) => {
-            refuse_large(path, l);
+            refuse_large(rt, path, l);
             no_part()
         }
     }
 }
 
 fn read_buffers(
+    rt: HostRuntime,
     dir: &[u8],
     l: Lengths,
     array: &mut Array,
     counts: &mut Counts,
     flags: &mut Flags,
 ) -> bool {
-    read_whole(dir, b"array", array, l.array)
-        && read_whole(dir, b"counts", counts, l.counts)
-        && read_whole(dir, b"flags", flags, l.flags)
+    read_whole(rt, dir, b"array", array, l.array)
+        && read_whole(rt, dir, b"counts", counts, l.counts)
+        && read_whole(rt, dir, b"flags", flags, l.flags)
 }
 
-fn read_id(dir: &[u8]) -> Part {
+fn read_id(rt: HostRuntime, dir: &[u8]) -> Part {
     let mut id = [0u8; 1];
     let none = no_part();
-    let good = read_whole(dir, b"id", &mut id, 1);
+    let good = read_whole(rt, dir, b"id", &mut id, 1);
     Part {
         good,
         device: id[0],
@@ -236,45 +243,57 @@ fn taken(bytes: &Answer, got: usize, page: &mut Page) -> bool {
     take_page(bytes, got, page)
 }
 
-fn page_from(fd: i32, path: &[u8], page: &mut Page) -> bool {
+fn page_from(rt: HostRuntime, opened: File, path: &[u8], page: &mut Page) -> Result<bool, Error> {
+    let mut file = opened;
     let mut bytes = [0u8; 769];
-    let got = io::read_full(fd, &mut bytes);
-    if one_more(fd) < 0 {
-        failed(path);
-        return false;
-    }
+    let got = read_full(&mut file, &mut bytes)?;
+    one_more(&mut file)?;
     if !taken(&bytes, got, page) {
-        refuse(path, PowerRefusal::PageLength);
-        return false;
+        refuse(rt, path, PowerRefusal::PageLength);
+        return Ok(false);
     }
-    true
+    Ok(true)
+}
+
+fn page_read(rt: HostRuntime, path: &[u8], page: &mut Page) -> Result<bool, Error> {
+    let file = open(rt, path)?;
+    page_from(rt, file, path, page)
 }
 
 // The page of a file, 256 bytes or the three copies of an answer to ECh. Whether there is one; if not, a line says why.
-pub fn page_in(path: &[u8], page: &mut Page) -> bool {
-    let fd = os::open_read(path);
-    if fd < 0 {
-        failed(path);
-        return false;
+pub fn page_in(rt: HostRuntime, path: &[u8], page: &mut Page) -> bool {
+    match page_read(rt, path, page) {
+        Ok(good) => good,
+        Err(e) => {
+            failed(rt, path, &e);
+            false
+        }
     }
-    let good = page_from(fd, path, page);
-    libc::close(fd);
-    good
+}
+
+fn folder_made(rt: HostRuntime, dir: &[u8]) -> Result<(), Error> {
+    fs::create_dir(&rt, text_of(dir)?)
+}
+
+fn remove_folder(rt: HostRuntime, dir: &[u8]) {
+    if let Ok(text) = text_of(dir) {
+        let _ = fs::remove_dir(&rt, text);
+    }
 }
 
 // The page of a file, and the part that it describes.
-pub fn read_page(path: &[u8], page: &mut Page) -> Part {
-    if page_in(path, page) {
-        planned(path, page, 0)
+pub fn read_page(rt: HostRuntime, path: &[u8], page: &mut Page) -> Part {
+    if page_in(rt, path, page) {
+        planned(rt, path, page, 0)
     } else {
         no_part()
     }
 }
 
-fn page_of(dir: &[u8], page: &mut Page) -> Part {
+fn page_of(rt: HostRuntime, dir: &[u8], page: &mut Page) -> Part {
     let mut path = [0u8; 4096];
     let n = join(&mut path, dir, b"page");
-    read_page(&path[..n], page)
+    read_page(rt, &path[..n], page)
 }
 
 // A part's sizes alone, for who only speaks of it: it may be larger than nib holds. Not good where there is none.
@@ -299,7 +318,7 @@ pub fn no_shape() -> Shape {
     }
 }
 
-fn shape_in(path: &[u8], page: &[u8]) -> Shape {
+fn shape_in(rt: HostRuntime, path: &[u8], page: &[u8]) -> Shape {
     let k = known_part(page);
     match k {
         Known::Part(geometry) => Shape {
@@ -307,46 +326,47 @@ fn shape_in(path: &[u8], page: &[u8]) -> Shape {
             geometry,
         },
         Known::Refused(why) => {
-            refuse_page(path, why, page);
+            refuse_page(rt, path, why, page);
             no_shape()
         }
     }
 }
 
-fn read_shape(path: &[u8], page: &mut Page) -> Shape {
-    if page_in(path, page) {
-        shape_in(path, page)
+fn read_shape(rt: HostRuntime, path: &[u8], page: &mut Page) -> Shape {
+    if page_in(rt, path, page) {
+        shape_in(rt, path, page)
     } else {
         no_shape()
     }
 }
 
 // The sizes of a folder's part, from its page; where there are none, a line says why.
-pub fn shape_of(dir: &[u8]) -> Shape {
+pub fn shape_of(rt: HostRuntime, dir: &[u8]) -> Shape {
     let mut path = [0u8; 4096];
     let mut page = [0u8; 256];
     let n = join(&mut path, dir, b"page");
-    read_shape(&path[..n], &mut page)
+    read_shape(rt, &path[..n], &mut page)
 }
 
 // The folder's files into the buffers.
 pub fn load(
+    rt: HostRuntime,
     dir: &[u8],
     page: &mut Page,
     array: &mut Array,
     counts: &mut Counts,
     flags: &mut Flags,
 ) -> Part {
-    let part = page_of(dir, page);
+    let part = page_of(rt, dir, page);
     if !part.good {
         return no_part();
     }
-    let id = read_id(dir);
+    let id = read_id(rt, dir);
     if !id.good {
         return no_part();
     }
     let l = part.lengths;
-    let good = read_buffers(dir, l, array, counts, flags);
+    let good = read_buffers(rt, dir, l, array, counts, flags);
     Part {
         good,
         device: id.device,
@@ -355,37 +375,52 @@ pub fn load(
 }
 
 // Array, counts and registers: all three are written beside the old ones before the first of them is renamed.
-fn written(dir: &[u8], l: Lengths, array: &Array, registers: &Registers, counts: &Counts) -> bool {
-    write_beside(dir, b"array.new", array, l.array)
-        && write_beside(dir, b"counts.new", counts, l.counts)
-        && write_beside(dir, b"registers.new", registers, l.registers)
+fn written(
+    rt: HostRuntime,
+    dir: &[u8],
+    l: Lengths,
+    array: &Array,
+    registers: &Registers,
+    counts: &Counts,
+) -> bool {
+    write_beside(rt, dir, b"array.new", array, l.array)
+        && write_beside(rt, dir, b"counts.new", counts, l.counts)
+        && write_beside(rt, dir, b"registers.new", registers, l.registers)
 }
 
-fn renamed(dir: &[u8]) -> bool {
-    rename(dir, b"array.new", b"array")
-        && rename(dir, b"counts.new", b"counts")
-        && rename(dir, b"registers.new", b"registers")
+fn renamed(rt: HostRuntime, dir: &[u8]) -> bool {
+    rename(rt, dir, b"array.new", b"array")
+        && rename(rt, dir, b"counts.new", b"counts")
+        && rename(rt, dir, b"registers.new", b"registers")
 }
 
-fn remove_new(dir: &[u8]) {
-    remove(dir, b"array.new");
-    remove(dir, b"counts.new");
-    remove(dir, b"registers.new");
+fn remove_new(rt: HostRuntime, dir: &[u8]) {
+    remove(rt, dir, b"array.new");
+    remove(rt, dir, b"counts.new");
+    remove(rt, dir, b"registers.new");
 }
 
-pub fn store(dir: &[u8], l: Lengths, array: &Array, registers: &Registers, counts: &Counts) {
-    let good = written(dir, l, array, registers, counts);
+pub fn store(
+    rt: HostRuntime,
+    dir: &[u8],
+    l: Lengths,
+    array: &Array,
+    registers: &Registers,
+    counts: &Counts,
+) {
+    let good = written(rt, dir, l, array, registers, counts);
     if !good {
-        remove_new(dir);
+        remove_new(rt, dir);
         return;
     }
-    if !renamed(dir) {
-        remove_new(dir);
+    if !renamed(rt, dir) {
+        remove_new(rt, dir);
     }
 }
 
 // How many of the five files were made, in this order.
 fn made(
+    rt: HostRuntime,
     dir: &[u8],
     page: &Page,
     device: u8,
@@ -395,42 +430,42 @@ fn made(
     flags: &Flags,
 ) -> usize {
     let id = [device];
-    if !create(dir, b"page", page, 256) {
+    if !create(rt, dir, b"page", page, 256) {
         return 0;
     }
-    if !create(dir, b"id", &id, 1) {
+    if !create(rt, dir, b"id", &id, 1) {
         return 1;
     }
-    if !create(dir, b"array", array, l.array) {
+    if !create(rt, dir, b"array", array, l.array) {
         return 2;
     }
-    if !create(dir, b"counts", counts, l.counts) {
+    if !create(rt, dir, b"counts", counts, l.counts) {
         return 3;
     }
-    if !create(dir, b"flags", flags, l.flags) {
+    if !create(rt, dir, b"flags", flags, l.flags) {
         return 4;
     }
     5
 }
 
 // Takes away what a call that failed has made.
-fn undo(dir: &[u8], made: usize) {
+fn undo(rt: HostRuntime, dir: &[u8], made: usize) {
     if 0 < made {
-        remove(dir, b"page");
+        remove(rt, dir, b"page");
     }
     if 1 < made {
-        remove(dir, b"id");
+        remove(rt, dir, b"id");
     }
     if 2 < made {
-        remove(dir, b"array");
+        remove(rt, dir, b"array");
     }
     if 3 < made {
-        remove(dir, b"counts");
+        remove(rt, dir, b"counts");
     }
 }
 
-fn tell_made(out: &mut Paper, dir: &[u8], l: Lengths) {
-    let p = begin(STDOUT_FILENO);
+fn tell_made(rt: HostRuntime, out: &mut Paper, dir: &[u8], l: Lengths) {
+    let p = begin(rt, To::Output);
     let p = text(out, p, dir);
     let p = with_number(out, p, b": page 256 bytes, id 1, array ", l.array);
     let p = with_number(out, p, b", counts ", l.counts);
@@ -440,19 +475,22 @@ fn tell_made(out: &mut Paper, dir: &[u8], l: Lengths) {
 }
 
 // The folder, 1 if it was made now, 0 if it stood already, 2 if neither.
-fn make_folder(dir: &[u8]) -> u8 {
-    if 0 <= os::mkdir(dir) {
-        return 1;
+fn make_folder(rt: HostRuntime, dir: &[u8]) -> u8 {
+    match folder_made(rt, dir) {
+        Ok(()) => 1,
+        Err(e) => {
+            if e.kind() == ErrorKind::AlreadyExists {
+                return 0;
+            }
+            failed(rt, dir, &e);
+            2
+        }
     }
-    if os::errno() == libc::EEXIST {
-        return 0;
-    }
-    failed(dir);
-    2
 }
 
 // A new part folder. The buffers are as lent: an erased array, counts and flags of 0.
 pub fn make(
+    rt: HostRuntime,
     dir: &[u8],
     page: &Page,
     part: Part,
@@ -461,19 +499,19 @@ pub fn make(
     flags: &Flags,
     out: &mut Paper,
 ) {
-    let folder = make_folder(dir);
+    let folder = make_folder(rt, dir);
     if folder == 2 {
         return;
     }
     let l = part.lengths;
-    let n = made(dir, page, part.device, l, array, counts, flags);
+    let n = made(rt, dir, page, part.device, l, array, counts, flags);
     if n == 5 {
-        tell_made(out, dir, l);
+        tell_made(rt, out, dir, l);
         return;
     }
-    undo(dir, n);
+    undo(rt, dir, n);
     if folder == 1 {
-        os::rmdir(dir);
+        remove_folder(rt, dir);
     }
 }
 

@@ -1,11 +1,10 @@
 // `nib jobs`: a trace told as whole jobs, and what is none.
 #![tactic(auto)]
 
-use libc::STDOUT_FILENO;
-use nib_files::files::{Input, read_input};
+use nib_files::files::{Input, Source, read_input};
 use nib_files::part::{Array, Shape};
 use nib_print::input::left;
-use nib_print::pen::{Paper, Pen, begin, count, end_line, flush, ranked, text};
+use nib_print::pen::{Paper, Pen, To, begin, count, end_line, flush, ranked, text};
 use nib_print::say::said;
 use nib_text::reading::up;
 use nib_told::lines::{is_end, line_at};
@@ -41,8 +40,8 @@ fn tell_line(t: Telling, part: Shape, trace: &[u8], out: &mut Paper) -> Telling 
     }
 }
 
-fn telling_begun() -> Telling {
-    let pen = begin(STDOUT_FILENO);
+fn telling_begun(rt: HostRuntime) -> Telling {
+    let pen = begin(rt, To::Output);
     Telling {
         pen,
         at: 0,
@@ -50,8 +49,8 @@ fn telling_begun() -> Telling {
     }
 }
 
-fn tell_lines(part: Shape, trace: &[u8], out: &mut Paper) {
-    let mut t = telling_begun();
+fn tell_lines(rt: HostRuntime, part: Shape, trace: &[u8], out: &mut Paper) {
+    let mut t = telling_begun(rt);
     let mut turns: u64 = 18446744073709551615;
     while 0 < turns {
         t = tell_line(t, part, trace, out);
@@ -61,8 +60,9 @@ fn tell_lines(part: Shape, trace: &[u8], out: &mut Paper) {
     flush(out, p);
 }
 
-fn read_trace(input: i32, trace: &mut Array) -> Input {
+fn read_trace(rt: HostRuntime, input: &mut Source, trace: &mut Array) -> Input {
     read_input(
+        rt,
         input,
         trace,
         b": a trace of more than ",
@@ -70,19 +70,25 @@ fn read_trace(input: i32, trace: &mut Array) -> Input {
     )
 }
 
-fn tell_front(part: Shape, trace: &[u8], n: usize, out: &mut Paper) {
+fn tell_front(rt: HostRuntime, part: Shape, trace: &[u8], n: usize, out: &mut Paper) {
     let n = count(n, trace);
-    tell_lines(part, &trace[..n], out);
+    tell_lines(rt, part, &trace[..n], out);
 }
 
-fn tell_array(part: Shape, trace: &Array, n: usize, out: &mut Paper) {
-    tell_front(part, trace, n, out)
+fn tell_array(rt: HostRuntime, part: Shape, trace: &Array, n: usize, out: &mut Paper) {
+    tell_front(rt, part, trace, n, out)
 }
 
 // `nib jobs`. The trace is held in what is lent.
-pub fn tell_jobs(part: Shape, input: i32, trace: &mut Array, out: &mut Paper) {
-    let got = read_trace(input, trace);
+pub fn tell_jobs(
+    rt: HostRuntime,
+    part: Shape,
+    input: &mut Source,
+    trace: &mut Array,
+    out: &mut Paper,
+) {
+    let got = read_trace(rt, input, trace);
     if got.good {
-        tell_array(part, trace, got.n, out);
+        tell_array(rt, part, trace, got.n, out);
     }
 }

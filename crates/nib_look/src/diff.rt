@@ -2,13 +2,14 @@
 // time, page by page, since there is room for one array alone.
 use crate::dump::place_words;
 use crate::walk::{Place, first_place, next_place, same_sizes};
-use libc::{STDERR_FILENO, STDOUT_FILENO};
-use nib_files::files::join;
+use nib_files::files::{join, open, read_full};
 use nib_files::part::{Array, Counts, Flags, Page, load, shape_of};
-use nib_print::pen::{Paper, Pen, begin, byte, count, end_line, failed, flush, number, text};
+use nib_print::pen::{Paper, Pen, To, begin, byte, count, end_line, failed, flush, number, text};
 use nib_print::say::with_number;
 use nib_text::reading::up;
 use slices::{byte_at, part_of};
+use std::fs::File;
+use std::io::Write;
 use target::Geometry;
 use target::sizes::page_size;
 
@@ -148,12 +149,12 @@ fn arrays_differ(out: &mut Paper, f: Found, at: Place, a: &[u8], b: &[u8]) -> Fo
 }
 
 // A page of the first folder's array that can't be read any more.
-fn unread(out: &mut Paper, f: Found, path: &[u8]) -> Found {
+fn unread(rt: HostRuntime, out: &mut Paper, f: Found, path: &[u8]) -> Found {
     let p = f.pen;
     let pen = flush(out, p);
-    io::write_all(STDERR_FILENO, b"nib: ");
-    io::write_all(STDERR_FILENO, path);
-    io::write_all(STDERR_FILENO, b": is shorter than it was\n");
+    let _ = rt.stderr().write_all(b"nib: ");
+    let _ = rt.stderr().write_all(path);
+    let _ = rt.stderr().write_all(b": is shorter than it was\n");
     Found {
         pen,
         good: false,
@@ -162,33 +163,37 @@ fn unread(out: &mut Paper, f: Found, path: &[u8]) -> Found {
 }
 
 // Whether there were so many bytes more.
-fn read_front(fd: i32, held: &mut [u8], n: usize) -> bool {
+fn read_front(input: &mut File, held: &mut [u8], n: usize) -> bool {
     let m = count(n, held);
-    let got = io::read_full(fd, &mut held[..m]);
-    got == m
+    match read_full(input, &mut held[..m]) {
+        Ok(got) => got == m,
+        Err(_) => false,
+    }
 }
 
 // The next page of the first folder's array, of `n` bytes, beside the second's.
 fn read_page(
+    rt: HostRuntime,
     out: &mut Paper,
     f: Found,
-    fd: i32,
+    input: &mut File,
     path: &[u8],
     at: Place,
     n: usize,
     held: &mut Buffer,
     other: &[u8],
 ) -> Found {
-    if !read_front(fd, held, n) {
-        return unread(out, f, path);
+    if !read_front(input, held, n) {
+        return unread(rt, out, f, path);
     }
     arrays_differ(out, f, at, part_of(held, 0, n), part_of(other, at.start, n))
 }
 
 fn one_place(
+    rt: HostRuntime,
     out: &mut Paper,
     f: Found,
-    fd: i32,
+    input: &mut File,
     path: &[u8],
     g: Geometry,
     at: Place,
@@ -204,16 +209,17 @@ fn one_place(
     }
     let a = byte_at(flags, at.flag);
     let f = flags_differ(out, f, at, a, byte_at(other_flags, at.flag));
-    let f = read_page(out, f, fd, path, at, page_size(g), held, array);
+    let f = read_page(rt, out, f, input, path, at, page_size(g), held, array);
     let a = byte_at(counts, at.count);
     counts_differ(out, f, at, a, byte_at(other_counts, at.count))
 }
 
 // Every page, block by block.
 fn places(
+    rt: HostRuntime,
     out: &mut Paper,
     from: Found,
-    fd: i32,
+    input: &mut File,
     path: &[u8],
     g: Geometry,
     pages: usize,
@@ -229,9 +235,10 @@ fn places(
     let mut i: usize = 0;
     while i < pages {
         f = one_place(
+            rt,
             out,
             f,
-            fd,
+            input,
             path,
             g,
             at,
@@ -249,6 +256,7 @@ fn places(
 }
 
 fn opened(
+    rt: HostRuntime,
     out: &mut Paper,
     f: Found,
     path: &[u8],
@@ -261,30 +269,34 @@ fn opened(
     other_flags: &Flags,
 ) -> Found {
     let mut held = [0u8; 18432];
-    let fd = os::open_read(path);
-    if fd < 0 {
-        failed(path);
-        return Found { good: false, ..f };
+    match open(rt, path) {
+        Err(e) => {
+            failed(rt, path, &e);
+            Found { good: false, ..f }
+        }
+        Ok(file) => {
+            let mut input = file;
+            places(
+                rt,
+                out,
+                f,
+                &mut input,
+                path,
+                g,
+                pages,
+                &mut held,
+                array,
+                counts,
+                other_counts,
+                flags,
+                other_flags,
+            )
+        }
     }
-    let f = places(
-        out,
-        f,
-        fd,
-        path,
-        g,
-        pages,
-        &mut held,
-        array,
-        counts,
-        other_counts,
-        flags,
-        other_flags,
-    );
-    libc::close(fd);
-    f
 }
 
 fn arrays(
+    rt: HostRuntime,
     dir: &[u8],
     out: &mut Paper,
     f: Found,
@@ -299,6 +311,7 @@ fn arrays(
     let mut path = [0u8; 4096];
     let n = join(&mut path, dir, b"array");
     opened(
+        rt,
         out,
         f,
         &path[..n],
@@ -327,16 +340,17 @@ fn not_compared(out: &mut Paper, f: Found) -> Found {
 }
 
 // The last line of a diff that found something: tools/nib gives the exit status 3 for it.
-fn told(out: &Paper, f: Found) {
+fn told(rt: HostRuntime, out: &Paper, f: Found) {
     let p = f.pen;
     let p = flush(out, p);
     if f.differs & f.good & p.good {
-        io::write_all(STDERR_FILENO, b"nib: the parts differ\n");
+        let _ = rt.stderr().write_all(b"nib: the parts differ\n");
     }
 }
 
 // `nib diff DIR DIR`.
 pub fn diff(
+    rt: HostRuntime,
     dir: &[u8],
     other: &[u8],
     out: &mut Paper,
@@ -348,11 +362,12 @@ pub fn diff(
     let mut other_page = [0u8; 256];
     let mut other_counts = [0u8; 262144];
     let mut other_flags = [0u8; 16384];
-    let one = load(dir, page, array, counts, flags);
+    let one = load(rt, dir, page, array, counts, flags);
     if !one.good {
         return;
     }
     let two = load(
+        rt,
         other,
         &mut other_page,
         array,
@@ -362,11 +377,11 @@ pub fn diff(
     if !two.good {
         return;
     }
-    let shape = shape_of(dir);
+    let shape = shape_of(rt, dir);
     let g = shape.geometry;
-    let shape = shape_of(other);
+    let shape = shape_of(rt, other);
     let h = shape.geometry;
-    let pen = begin(STDOUT_FILENO);
+    let pen = begin(rt, To::Output);
     let f = Found {
         pen,
         differs: false,
@@ -376,11 +391,12 @@ pub fn diff(
     let f = ids_differ(out, f, one.device, two.device);
     if !same_sizes(g, h) {
         let f = not_compared(out, f);
-        told(out, f);
+        told(rt, out, f);
         return;
     }
     let l = one.lengths;
     let f = arrays(
+        rt,
         dir,
         out,
         f,
@@ -392,5 +408,5 @@ pub fn diff(
         flags,
         &other_flags,
     );
-    told(out, f);
+    told(rt, out, f);
 }

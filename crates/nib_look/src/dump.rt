@@ -1,9 +1,8 @@
 // `nib dump`: a page of the array.
 use crate::walk::{Place, first_place, sought};
-use libc::{STDERR_FILENO, STDOUT_FILENO};
 use nib_files::part::{Array, Counts, Flags, Page, load, shape_of};
 use nib_print::input::printable;
-use nib_print::pen::{Paper, Pen, begin, end_line, flush, hex, pad, put, text};
+use nib_print::pen::{Paper, Pen, To, begin, end_line, flush, hex, pad, put, text};
 use nib_print::say::with_number;
 use nib_text::reading::{Word, grown, no_word};
 use slices::{byte_at, part_of};
@@ -37,8 +36,8 @@ fn shown(out: &mut Paper, p: Pen, s: &[u8]) -> Pen {
     q
 }
 
-fn no_number(out: &mut Paper, name: &[u8], s: &[u8]) {
-    let p = begin(STDERR_FILENO);
+fn no_number(rt: HostRuntime, out: &mut Paper, name: &[u8], s: &[u8]) {
+    let p = begin(rt, To::Errors);
     let p = text(out, p, b"nib: ");
     let p = text(out, p, name);
     let p = text(out, p, b" is a number, and '");
@@ -51,8 +50,8 @@ fn last_of(many: usize) -> usize {
     if 0 < many { many - 1 } else { 0 }
 }
 
-fn not_there(out: &mut Paper, name: &[u8], s: &[u8], many: usize) {
-    let p = begin(STDERR_FILENO);
+fn not_there(rt: HostRuntime, out: &mut Paper, name: &[u8], s: &[u8], many: usize) {
+    let p = begin(rt, To::Errors);
     let p = text(out, p, b"nib: ");
     let p = text(out, p, name);
     let p = with_number(out, p, b" is 0 to ", last_of(many));
@@ -63,20 +62,27 @@ fn not_there(out: &mut Paper, name: &[u8], s: &[u8], many: usize) {
 }
 
 // A decimal number; where it is none, a line says so.
-fn number_given(out: &mut Paper, name: &[u8], s: &[u8]) -> Given {
+fn number_given(rt: HostRuntime, out: &mut Paper, name: &[u8], s: &[u8]) -> Given {
     let w = word_of(s);
     let good = (0 < w.length) & w.numbered;
     if !good {
-        no_number(out, name, s);
+        no_number(rt, out, name, s);
     }
     Given { good, n: w.number }
 }
 
 // Whether it is below `many`; where it is not, a line says what is.
-fn is_there(out: &mut Paper, name: &[u8], s: &[u8], n: usize, many: usize) -> bool {
+fn is_there(
+    rt: HostRuntime,
+    out: &mut Paper,
+    name: &[u8],
+    s: &[u8],
+    n: usize,
+    many: usize,
+) -> bool {
     let there = n < many;
     if !there {
-        not_there(out, name, s, many);
+        not_there(rt, out, name, s, many);
     }
     there
 }
@@ -190,16 +196,25 @@ fn rows(out: &mut Paper, p: Pen, held: &[u8]) -> Pen {
     q
 }
 
-fn show(out: &mut Paper, at: Place, held: &[u8], count: u8, flag: u8) {
-    let p = begin(STDOUT_FILENO);
+fn show(rt: HostRuntime, out: &mut Paper, at: Place, held: &[u8], count: u8, flag: u8) {
+    let p = begin(rt, To::Output);
     let p = head(out, p, at, count, flag);
     let p = rows(out, p, held);
     flush(out, p);
 }
 
-fn show_page(g: Geometry, at: Place, out: &mut Paper, array: &[u8], counts: &[u8], flags: &[u8]) {
+fn show_page(
+    rt: HostRuntime,
+    g: Geometry,
+    at: Place,
+    out: &mut Paper,
+    array: &[u8],
+    counts: &[u8],
+    flags: &[u8],
+) {
     let held = part_of(array, at.start, page_size(g));
     show(
+        rt,
         out,
         at,
         held,
@@ -210,6 +225,7 @@ fn show_page(g: Geometry, at: Place, out: &mut Paper, array: &[u8], counts: &[u8
 
 // `nib dump DIR LUN BLOCK PAGE`.
 pub fn dump(
+    rt: HostRuntime,
     dir: &[u8],
     lun: &[u8],
     block: &[u8],
@@ -220,33 +236,33 @@ pub fn dump(
     counts: &mut Counts,
     flags: &mut Flags,
 ) {
-    let part = load(dir, page, array, counts, flags);
+    let part = load(rt, dir, page, array, counts, flags);
     if !part.good {
         return;
     }
-    let shape = shape_of(dir);
+    let shape = shape_of(rt, dir);
     let g = shape.geometry;
-    let l = number_given(out, b"LUN", lun);
+    let l = number_given(rt, out, b"LUN", lun);
     if !l.good {
         return;
     }
-    let b = number_given(out, b"block", block);
+    let b = number_given(rt, out, b"block", block);
     if !b.good {
         return;
     }
-    let i = number_given(out, b"page", index);
+    let i = number_given(rt, out, b"page", index);
     if !i.good {
         return;
     }
-    if !is_there(out, b"LUN", lun, l.n, g.luns) {
+    if !is_there(rt, out, b"LUN", lun, l.n, g.luns) {
         return;
     }
-    if !is_there(out, b"block", block, b.n, g.blocks) {
+    if !is_there(rt, out, b"block", block, b.n, g.blocks) {
         return;
     }
-    if !is_there(out, b"page", index, i.n, g.pages) {
+    if !is_there(rt, out, b"page", index, i.n, g.pages) {
         return;
     }
     let at = place_of(g, l.n, b.n, i.n);
-    show_page(g, at, out, array, counts, flags);
+    show_page(rt, g, at, out, array, counts, flags);
 }

@@ -1,9 +1,8 @@
 // What a parameter page says, and how many blocks of a part folder are blank.
-use libc::STDOUT_FILENO;
-use nib_files::files::join;
+use nib_files::files::{join, open};
 use nib_files::part::{Array, Counts, Flags, Page, Registers, load, page_in, power, refuse};
 use nib_print::input::printable;
-use nib_print::pen::{Paper, Pen, begin, byte, end_line, flush, number, pad, put, text, wide};
+use nib_print::pen::{Paper, Pen, To, begin, byte, end_line, flush, number, pad, put, text, wide};
 use nib_print::say::{power_sentence, with_number};
 use nib_sizes::{Lengths, Plan, plan_of};
 use page::crc::page_crc;
@@ -185,8 +184,8 @@ fn fields(out: &mut Paper, p: Pen, page: &[u8]) -> Pen {
     last_fields(out, p, page)
 }
 
-fn shown(page: &Page, out: &mut Paper) {
-    let p = begin(STDOUT_FILENO);
+fn shown(rt: HostRuntime, page: &Page, out: &mut Paper) {
+    let p = begin(rt, To::Output);
     let p = fields(out, p, page);
     flush(out, p);
 }
@@ -211,14 +210,15 @@ fn blank_words(out: &mut Paper, p: Pen, t: Target) -> Pen {
     end_line(out, p)
 }
 
-fn tell_blank(out: &mut Paper, t: Target) {
-    let p = begin(STDOUT_FILENO);
+fn tell_blank(rt: HostRuntime, out: &mut Paper, t: Target) {
+    let p = begin(rt, To::Output);
     let p = blank_words(out, p, t);
     flush(out, p);
 }
 
 // Power-on counts the folder's blank blocks.
 fn count_blank(
+    rt: HostRuntime,
     dir: &[u8],
     out: &mut Paper,
     page: &mut Page,
@@ -227,7 +227,7 @@ fn count_blank(
     counts: &mut Counts,
     flags: &mut Flags,
 ) {
-    let part = load(dir, page, array, counts, flags);
+    let part = load(rt, dir, page, array, counts, flags);
     if !part.good {
         return;
     }
@@ -235,8 +235,8 @@ fn count_blank(
     let answer = on.answer;
     let t = on.target;
     match answer {
-        PowerAnswer::Accepted => tell_blank(out, t),
-        PowerAnswer::Refused(why) => refuse(dir, why),
+        PowerAnswer::Accepted => tell_blank(rt, out, t),
+        PowerAnswer::Refused(why) => refuse(rt, dir, why),
     }
 }
 
@@ -250,17 +250,16 @@ fn is_held(page: &[u8]) -> bool {
     }
 }
 
-fn is_file(path: &[u8]) -> bool {
-    let fd = os::open_read(path);
-    if fd < 0 {
-        return false;
+fn is_file(rt: HostRuntime, path: &[u8]) -> bool {
+    match open(rt, path) {
+        Ok(_) => true,
+        Err(_) => false,
     }
-    libc::close(fd);
-    true
 }
 
 // `nib page`, of a page in a file or of a part folder's. What is no page is told of as an error, and no field of it is made up.
 pub fn show_page(
+    rt: HostRuntime,
     path: &[u8],
     out: &mut Paper,
     page: &mut Page,
@@ -271,16 +270,16 @@ pub fn show_page(
 ) {
     let mut inside = [0u8; 4096];
     let n = join(&mut inside, path, b"page");
-    if !is_file(&inside[..n]) {
-        if page_in(path, page) {
-            shown(page, out);
+    if !is_file(rt, &inside[..n]) {
+        if page_in(rt, path, page) {
+            shown(rt, page, out);
         }
         return;
     }
-    if page_in(&inside[..n], page) {
-        shown(page, out);
+    if page_in(rt, &inside[..n], page) {
+        shown(rt, page, out);
         if is_held(page) {
-            count_blank(path, out, page, array, registers, counts, flags);
+            count_blank(rt, path, out, page, array, registers, counts, flags);
         }
     }
 }

@@ -1,13 +1,22 @@
 // Writing: bytes gather on a paper and go out when it is full or when `flush` is asked, so that a line costs no call of its own.
 ghost use Rattle.io.specs.Counts.{IsPrefixLen};
 
-use libc::STDERR_FILENO;
+use std::alloc::{AllocError, Global};
+use std::io::{Error, Write};
 
 pub type Paper = [u8; 65536];
 
+// Where a pen writes.
+#[derive(Clone, Copy)]
+pub enum To {
+    Output,
+    Errors,
+}
+
 #[derive(Clone, Copy)]
 pub struct Pen {
-    pub fd: i32,
+    pub rt: HostRuntime,
+    pub to: To,
     // how many bytes wait on the paper
     pub n: usize,
     // the column that the next byte stands in
@@ -16,13 +25,33 @@ pub struct Pen {
     pub good: bool,
 }
 
-pub fn begin(fd: i32) -> Pen {
+pub fn begin(rt: HostRuntime, to: To) -> Pen {
     Pen {
-        fd,
+        rt,
+        to,
         n: 0,
         column: 0,
         good: true,
     }
+}
+
+// The system's words for an error alone, as C's strerror has them.
+fn words_of(alloc: Global, e: &Error) -> Result<String, AllocError> {
+    let all = format!(in alloc; "{e}")?;
+    match all.as_str().split_once(" (os error ") {
+        Some((front, _)) => String::from_str(alloc, front),
+        None => Ok(all),
+    }
+}
+
+fn tell(rt: HostRuntime, path: &[u8], e: &Error) -> Result<(), Error> {
+    let why = words_of(rt.alloc(), e)?;
+    let mut to = rt.stderr();
+    to.write_all(b"nib: ")?;
+    to.write_all(path)?;
+    to.write_all(b": ")?;
+    to.write_all(why.as_bytes())?;
+    to.write_all(b"\n")
 }
 
 // `n`, or the slice's length where that is less.
@@ -32,10 +61,16 @@ pub fn count(n: usize, s: &[u8]) -> usize
     if n < s.len() { n } else { s.len() }
 }
 
-// A line on standard error: the path, a colon, and why the last call on it failed.
-pub fn failed(path: &[u8]) {
-    io::write_all(STDERR_FILENO, b"nib: ");
-    os::fail(path);
+// A line on standard error: the path, a colon, and why a call on it failed.
+pub fn failed(rt: HostRuntime, path: &[u8], e: &Error) {
+    let _ = tell(rt, path, e);
+}
+
+fn write_to(rt: HostRuntime, to: To, s: &[u8]) -> Result<(), Error> {
+    match to {
+        To::Output => rt.stdout().write_all(s),
+        To::Errors => rt.stderr().write_all(s),
+    }
 }
 
 // What waits goes out. After a write that failed, and was told of, nothing more is written.
@@ -44,11 +79,17 @@ fn flush_front(out: &[u8], p: Pen) -> Pen {
         return Pen { n: 0, ..p };
     }
     let n = count(p.n, out);
-    let good = io::write_all(p.fd, &out[..n]);
-    if !good {
-        failed(b"standard output");
+    match write_to(p.rt, p.to, &out[..n]) {
+        Ok(()) => Pen { n: 0, ..p },
+        Err(e) => {
+            failed(p.rt, b"standard output", &e);
+            Pen {
+                n: 0,
+                good: false,
+                ..p
+            }
+        }
     }
-    Pen { n: 0, good, ..p }
 }
 
 pub fn flush(out: &Paper, p: Pen) -> Pen {

@@ -1,19 +1,22 @@
 // A trace as it comes, byte by byte: its replies as they are, or in words.
-use libc::STDOUT_FILENO;
 use nib_args::May;
 use nib_explain::fold::{
     Held, Run, carried, goes_out, held_next, joins, pick_run, run_number, run_of,
 };
 use nib_explain::tally::{Tally, tally};
 use nib_explain::words::{row_at, run_reply, run_words, status_reply, tally_words};
+use nib_files::files::Source;
 use nib_files::part::{
     Array, Counts, Flags, Page, Part, Registers, load, power, refuse, run_on, store,
 };
 use nib_print::input::left;
-use nib_print::pen::{Paper, Pen, begin, count, end_line, failed, flush, pad, put, ranked, text};
+use nib_print::pen::{
+    Paper, Pen, To, begin, count, end_line, failed, flush, pad, put, ranked, text,
+};
 use nib_print::say::{event, lun_meant, power_sentence, reply, said};
 use nib_text::reading::up;
 use power::PowerAnswer;
+use std::io::{Error, Read};
 use target::commands::place_of;
 use target::picks::pick_number;
 use target::place::{is_open, put_out, shows_status};
@@ -35,7 +38,7 @@ pub enum Telling {
 }
 
 // How far a trace has come.
-#[derive(Drop)]
+#[derive(Clone, Copy)]
 pub struct Stream {
     pub target: Target,
     pub pen: Pen,
@@ -48,7 +51,6 @@ pub struct Stream {
     // the first byte of a record has come, and this is it
     pub half: bool,
     pub first: u8,
-    pub input: i32,
     // there may be more to come
     pub going: bool,
     // what is held back of a run of data, its first bytes, and the number of its first record
@@ -82,7 +84,7 @@ fn one_by_one(how: Telling) -> bool {
     }
 }
 
-pub fn set_out(target: Target, pen: Pen, how: Telling, input: i32) -> Stream {
+pub fn set_out(target: Target, pen: Pen, how: Telling) -> Stream {
     let words = in_words(how);
     let each = one_by_one(how);
     let held = nothing_held();
@@ -96,7 +98,6 @@ pub fn set_out(target: Target, pen: Pen, how: Telling, input: i32) -> Stream {
         number: 0,
         half: false,
         first: 0,
-        input,
         going: true,
         held,
         shown,
@@ -429,11 +430,11 @@ fn flushed(s: Stream, out: &Paper, more: bool) -> Stream {
 }
 
 // An input that can't be read: what is held back goes out before the error, and nothing is stored.
-fn unread(s: Stream, out: &mut Paper) -> Stream {
+fn unread(rt: HostRuntime, s: Stream, out: &mut Paper, e: &Error) -> Stream {
     let s = drained(out, s);
     let p = s.pen;
     let p = flush(out, p);
-    failed(b"standard input");
+    failed(rt, b"standard input", e);
     let pen = Pen { good: false, ..p };
     Stream {
         pen,
@@ -444,7 +445,9 @@ fn unread(s: Stream, out: &mut Paper) -> Stream {
 
 // What the input has at hand, and its replies.
 fn turn(
+    rt: HostRuntime,
     s: Stream,
+    input: &mut Source,
     out: &mut Paper,
     part: Part,
     page: &Page,
@@ -454,32 +457,34 @@ fn turn(
     flags: &Flags,
 ) -> Stream {
     let mut chunk = [0u8; 4096];
-    let got = libc::read(s.input, &mut chunk);
-    if got < 0 {
-        return unread(s, out);
+    match input.read(&mut chunk) {
+        Err(e) => unread(rt, s, out, &e),
+        Ok(0) => {
+            let s = odd_byte(s, out, part, page, array, registers, counts, flags);
+            let s = ended(out, s);
+            flushed(s, out, false)
+        }
+        Ok(n) => {
+            let s = bytes(
+                s,
+                &chunk[..n],
+                out,
+                part,
+                page,
+                array,
+                registers,
+                counts,
+                flags,
+            );
+            flushed(s, out, true)
+        }
     }
-    let n = io::count(got, &chunk);
-    if n == 0 {
-        let s = odd_byte(s, out, part, page, array, registers, counts, flags);
-        let s = ended(out, s);
-        return flushed(s, out, false);
-    }
-    let s = bytes(
-        s,
-        &chunk[..n],
-        out,
-        part,
-        page,
-        array,
-        registers,
-        counts,
-        flags,
-    );
-    flushed(s, out, true)
 }
 
 fn whole_input(
+    rt: HostRuntime,
     from: Stream,
+    input: &mut Source,
     out: &mut Paper,
     part: Part,
     page: &Page,
@@ -491,7 +496,9 @@ fn whole_input(
     let mut s = from;
     let mut turns: u64 = 18446744073709551615;
     while 0 < turns {
-        s = turn(s, out, part, page, array, registers, counts, flags);
+        s = turn(
+            rt, s, input, out, part, page, array, registers, counts, flags,
+        );
         turns = left(turns, s.going);
     }
     s
@@ -499,9 +506,10 @@ fn whole_input(
 
 // The trace of standard input. Whether all of it was read and every reply written.
 fn ran(
+    rt: HostRuntime,
     t: Target,
     how: Telling,
-    input: i32,
+    input: &mut Source,
     out: &mut Paper,
     part: Part,
     page: &Page,
@@ -510,8 +518,10 @@ fn ran(
     counts: &mut Counts,
     flags: &Flags,
 ) -> bool {
-    let s = set_out(t, begin(STDOUT_FILENO), how, input);
-    let s = whole_input(s, out, part, page, array, registers, counts, flags);
+    let s = set_out(t, begin(rt, To::Output), how);
+    let s = whole_input(
+        rt, s, input, out, part, page, array, registers, counts, flags,
+    );
     let p = s.pen;
     p.good
 }
@@ -530,9 +540,9 @@ fn tell_power(out: &mut Paper, p: Pen, answer: PowerAnswer) -> Pen {
 }
 
 // Power-on told in words; where replies are bytes, only a refused one is told, as an error. Whether the trace is to be run.
-fn goes_on(out: &mut Paper, dir: &[u8], words: bool, answer: PowerAnswer) -> bool {
+fn goes_on(rt: HostRuntime, out: &mut Paper, dir: &[u8], words: bool, answer: PowerAnswer) -> bool {
     if words {
-        let p = begin(STDOUT_FILENO);
+        let p = begin(rt, To::Output);
         let p = tell_power(out, p, answer);
         let p = flush(out, p);
         return p.good;
@@ -540,7 +550,7 @@ fn goes_on(out: &mut Paper, dir: &[u8], words: bool, answer: PowerAnswer) -> boo
     match answer {
         PowerAnswer::Accepted => true,
         PowerAnswer::Refused(why) => {
-            refuse(dir, why);
+            refuse(rt, dir, why);
             false
         }
     }
@@ -549,10 +559,11 @@ fn goes_on(out: &mut Paper, dir: &[u8], words: bool, answer: PowerAnswer) -> boo
 // `nib run` and, in words, `nib explain`. Only what was powered, read to its end and answered whole is stored, and by a command
 // that may store alone.
 pub fn on_folder(
+    rt: HostRuntime,
     dir: &[u8],
     may: May,
     how: Telling,
-    input: i32,
+    input: &mut Source,
     out: &mut Paper,
     page: &mut Page,
     array: &mut Array,
@@ -560,21 +571,21 @@ pub fn on_folder(
     counts: &mut Counts,
     flags: &mut Flags,
 ) {
-    let part = load(dir, page, array, counts, flags);
+    let part = load(rt, dir, page, array, counts, flags);
     if !part.good {
         return;
     }
     let on = power(part, page, array, registers, counts, flags);
     let answer = on.answer;
     let t = on.target;
-    if !goes_on(out, dir, in_words(how), answer) {
+    if !goes_on(rt, out, dir, in_words(how), answer) {
         return;
     }
     let good = ran(
-        t, how, input, out, part, page, array, registers, counts, flags,
+        rt, t, how, input, out, part, page, array, registers, counts, flags,
     );
     if good & may.store {
         let l = part.lengths;
-        store(dir, l, array, registers, counts);
+        store(rt, dir, l, array, registers, counts);
     }
 }

@@ -6,15 +6,14 @@ ghost use Rattle.std.specs.Prelude.{◌≡◌, ◌+◌, ◌<◌};
 use jobs::Job;
 use jobs::numbers::NamedJob;
 use jobs::writing::{Answer, write};
-use libc::{STDERR_FILENO, STDOUT_FILENO};
 use nib_args::May;
 use nib_expect::words::{bytes_failed, failed_words, ok_words, refusal_words, script_words};
 use nib_expect::{Since, after, bytes_hold, gives, nothing, ok_holds, refusal_holds};
-use nib_files::files::{Input, read_input};
+use nib_files::files::{Input, Source, read_input};
 use nib_files::part::{
     Array, Counts, Flags, Page, Part, Registers, Shape, load, power, refuse, run_on, store,
 };
-use nib_print::pen::{Paper, Pen, begin, count, end_line, flush, text};
+use nib_print::pen::{Paper, Pen, To, begin, count, end_line, flush, text};
 use nib_print::say::with_number;
 use nib_text::reading::{Said, Spot, up};
 use nib_translate::texts::{Data, Last, Room, Text, is_good, one_byte, text_begun};
@@ -70,10 +69,10 @@ fn set_out(target: Target) -> Script {
     }
 }
 
-fn tell_words(line: usize, place: usize, words: &[u8], n: usize) {
+fn tell_words(rt: HostRuntime, line: usize, place: usize, words: &[u8], n: usize) {
     let mut out = [0u8; 65536];
     let n = count(n, words);
-    let p = begin(STDERR_FILENO);
+    let p = begin(rt, To::Errors);
     let p = with_number(&mut out, p, b"nib: standard input, line ", line);
     let p = with_number(&mut out, p, b", place ", place);
     let p = text(&mut out, p, b": ");
@@ -83,26 +82,26 @@ fn tell_words(line: usize, place: usize, words: &[u8], n: usize) {
 }
 
 // The line on standard error that names an expectation that failed.
-fn tell(line: usize, place: usize, words: &Words, n: usize) {
-    tell_words(line, place, words, n)
+fn tell(rt: HostRuntime, line: usize, place: usize, words: &Words, n: usize) {
+    tell_words(rt, line, place, words, n)
 }
 
-fn tell_ok(s: Since, line: usize, place: usize) {
+fn tell_ok(rt: HostRuntime, s: Since, line: usize, place: usize) {
     let mut words = [0u8; 256];
     let n = ok_words(&mut words, 0, s);
-    tell(line, place, &words, n);
+    tell(rt, line, place, &words, n);
 }
 
-fn tell_refusal(s: Since, last: usize, refusal: u8, line: usize, place: usize) {
+fn tell_refusal(rt: HostRuntime, s: Since, last: usize, refusal: u8, line: usize, place: usize) {
     let mut words = [0u8; 256];
     let n = refusal_words(&mut words, 0, s, last, refusal);
-    tell(line, place, &words, n);
+    tell(rt, line, place, &words, n);
 }
 
-fn tell_bytes(s: Since, given: &[u8], wanted: &[u8], line: usize, place: usize) {
+fn tell_bytes(rt: HostRuntime, s: Since, given: &[u8], wanted: &[u8], line: usize, place: usize) {
     let mut words = [0u8; 256];
     let n = bytes_failed(&mut words, 0, s, given, wanted);
-    tell(line, place, &words, n);
+    tell(rt, line, place, &words, n);
 }
 
 // After an expectation, which held or did not.
@@ -120,39 +119,39 @@ fn settled(s: Script, held: bool) -> Script {
 }
 
 // `ok`.
-fn judged_ok(s: Script, at: Spot) -> Script {
+fn judged_ok(rt: HostRuntime, s: Script, at: Spot) -> Script {
     let since = s.since;
     let held = ok_holds(since);
     if !held {
-        tell_ok(since, at.line, at.start);
+        tell_ok(rt, since, at.line, at.start);
     }
     settled(s, held)
 }
 
 // `!` and a number.
-fn judged_refusal(s: Script, refusal: u8, at: Spot) -> Script {
+fn judged_refusal(rt: HostRuntime, s: Script, refusal: u8, at: Spot) -> Script {
     let since = s.since;
     let held = refusal_holds(since, refusal);
     if !held {
-        tell_refusal(since, s.events, refusal, at.line, at.start);
+        tell_refusal(rt, since, s.events, refusal, at.line, at.start);
     }
     settled(s, held)
 }
 
 // `=` and bytes.
-fn judged_lists(s: Script, given: &[u8], wanted: &[u8]) -> Script {
+fn judged_lists(rt: HostRuntime, s: Script, given: &[u8], wanted: &[u8]) -> Script {
     let since = s.since;
     let n = count(s.given, given);
     let m = count(s.wanted, wanted);
     let held = bytes_hold(since, &given[..n], &wanted[..m]);
     if !held {
-        tell_bytes(since, &given[..n], &wanted[..m], s.line, s.place);
+        tell_bytes(rt, since, &given[..n], &wanted[..m], s.line, s.place);
     }
     settled(s, held)
 }
 
-fn judged_bytes(s: Script, given: &Given, wanted: &Wanted) -> Script {
-    judged_lists(s, given, wanted)
+fn judged_bytes(rt: HostRuntime, s: Script, given: &Given, wanted: &Wanted) -> Script {
+    judged_lists(rt, s, given, wanted)
 }
 
 // A byte that came, where there is room for it.
@@ -312,6 +311,7 @@ fn outs(
 // What a byte of the text says: events are run, and what is expected is kept or looked at. `ok` comes after the job and the list
 // that end with the byte.
 fn heard(
+    rt: HostRuntime,
     s: Script,
     said: Said,
     at: Spot,
@@ -338,7 +338,7 @@ fn heard(
         Said::Wrong(_) => s,
         Said::Accepted => s,
         Said::Expected(b) => listed(s, b, at, wanted),
-        Said::Refused(n) => judged_refusal(s, n, at),
+        Said::Refused(n) => judged_refusal(rt, s, n, at),
     }
 }
 
@@ -409,6 +409,7 @@ pub struct Both {
 
 // One byte of the text.
 fn text_byte(
+    rt: HostRuntime,
     from: Both,
     b: u8,
     word: &mut Last,
@@ -426,27 +427,28 @@ fn text_byte(
     let t = from.text;
     let at = t.spot;
     let s = from.script;
-    let one = one_byte(t, b, word, data);
+    let one = one_byte(rt, t, b, word, data);
     let text = one.text;
     let said = one.said;
     let job = one.job;
     let s = heard(
-        s, said, at, given, wanted, part, page, array, registers, counts, flags,
+        rt, s, said, at, given, wanted, part, page, array, registers, counts, flags,
     );
     let n = named(job, data, text.given, room);
     let s = ran_front(
         s, n, room, given, part, page, array, registers, counts, flags,
     );
     let s = if one.listed {
-        judged_bytes(s, given, wanted)
+        judged_bytes(rt, s, given, wanted)
     } else {
         s
     };
-    let script = if is_ok(said) { judged_ok(s, at) } else { s };
+    let script = if is_ok(said) { judged_ok(rt, s, at) } else { s };
     Both { text, script }
 }
 
 fn text_bytes(
+    rt: HostRuntime,
     from: Both,
     whole: &[u8],
     word: &mut Last,
@@ -465,8 +467,8 @@ fn text_bytes(
     let mut i: usize = 0;
     while i < whole.len() {
         both = text_byte(
-            both, whole[i], word, data, room, given, wanted, part, page, array, registers, counts,
-            flags,
+            rt, both, whole[i], word, data, room, given, wanted, part, page, array, registers,
+            counts, flags,
         );
         i = place_after(i, whole.len());
     }
@@ -475,6 +477,7 @@ fn text_bytes(
 
 // The whole text, the line end that is read after it, and the odd last byte, where there is one.
 fn ran_whole(
+    rt: HostRuntime,
     target: Target,
     shape: Shape,
     whole: &[u8],
@@ -490,10 +493,11 @@ fn ran_whole(
     let mut word = [0u8; 32];
     let mut given = [0u8; 87383];
     let mut wanted = [0u8; 87382];
-    let text = text_begun(true, shape);
+    let text = text_begun(rt, true, shape);
     let script = set_out(target);
     let both = Both { text, script };
     let both = text_bytes(
+        rt,
         both,
         whole,
         &mut word,
@@ -509,6 +513,7 @@ fn ran_whole(
         flags,
     );
     let both = text_byte(
+        rt,
         both,
         b'\n',
         &mut word,
@@ -544,10 +549,10 @@ fn with_words(out: &mut Paper, p: Pen, words: &Words, n: usize) -> Pen {
 }
 
 // How many events and expectations there were. Whether that could be written.
-fn counted(s: Script, out: &mut Paper) -> bool {
+fn counted(rt: HostRuntime, s: Script, out: &mut Paper) -> bool {
     let mut words = [0u8; 256];
     let n = script_words(&mut words, 0, s.events, s.expected);
-    let p = begin(STDOUT_FILENO);
+    let p = begin(rt, To::Output);
     let p = with_words(out, p, &words, n);
     let p = end_line(out, p);
     let p = flush(out, p);
@@ -555,10 +560,10 @@ fn counted(s: Script, out: &mut Paper) -> bool {
 }
 
 // The last line where an expectation failed, by which tools/nib gives its status.
-fn tell_failed(s: Script, out: &mut Paper) {
+fn tell_failed(rt: HostRuntime, s: Script, out: &mut Paper) {
     let mut words = [0u8; 256];
     let n = failed_words(&mut words, 0, s.failed, s.expected);
-    let p = begin(STDERR_FILENO);
+    let p = begin(rt, To::Errors);
     let p = text(out, p, b"nib: ");
     let p = with_words(out, p, &words, n);
     let p = end_line(out, p);
@@ -566,10 +571,10 @@ fn tell_failed(s: Script, out: &mut Paper) {
 }
 
 // Every expectation held, and whoever runs the script knows it.
-fn held(s: Script, out: &mut Paper) -> bool {
-    let good = counted(s, out);
+fn held(rt: HostRuntime, s: Script, out: &mut Paper) -> bool {
+    let good = counted(rt, s, out);
     if 0 < s.failed {
-        tell_failed(s, out);
+        tell_failed(rt, s, out);
         false
     } else {
         good
@@ -578,6 +583,7 @@ fn held(s: Script, out: &mut Paper) -> bool {
 
 // A text that is looked at whole before its first event is run.
 fn looked_at(
+    rt: HostRuntime,
     target: Target,
     whole: &[u8],
     n: usize,
@@ -597,8 +603,9 @@ fn looked_at(
         good: true,
         geometry,
     };
-    if is_good(shape, &whole[..n], out, &mut data, &mut room) {
+    if is_good(rt, shape, &whole[..n], out, &mut data, &mut room) {
         let s = ran_whole(
+            rt,
             target,
             shape,
             &whole[..n],
@@ -611,13 +618,14 @@ fn looked_at(
             counts,
             flags,
         );
-        held(s, out)
+        held(rt, s, out)
     } else {
         false
     }
 }
 
 fn whole_looked_at(
+    rt: HostRuntime,
     target: Target,
     whole: &Whole,
     n: usize,
@@ -630,12 +638,13 @@ fn whole_looked_at(
     flags: &Flags,
 ) -> bool {
     looked_at(
-        target, whole, n, out, part, page, array, registers, counts, flags,
+        rt, target, whole, n, out, part, page, array, registers, counts, flags,
     )
 }
 
-fn read_script(input: i32, whole: &mut Whole) -> Input {
+fn read_script(rt: HostRuntime, input: &mut Source, whole: &mut Whole) -> Input {
     read_input(
+        rt,
         input,
         whole,
         b": a script of more than ",
@@ -644,8 +653,9 @@ fn read_script(input: i32, whole: &mut Whole) -> Input {
 }
 
 fn run_script(
+    rt: HostRuntime,
     target: Target,
-    input: i32,
+    input: &mut Source,
     out: &mut Paper,
     part: Part,
     page: &Page,
@@ -655,20 +665,20 @@ fn run_script(
     flags: &Flags,
 ) -> bool {
     let mut whole = [0u8; 262144];
-    let got = read_script(input, &mut whole);
+    let got = read_script(rt, input, &mut whole);
     if !got.good {
         return false;
     }
     whole_looked_at(
-        target, &whole, got.n, out, part, page, array, registers, counts, flags,
+        rt, target, &whole, got.n, out, part, page, array, registers, counts, flags,
     )
 }
 
-fn is_on(dir: &[u8], answer: PowerAnswer) -> bool {
+fn is_on(rt: HostRuntime, dir: &[u8], answer: PowerAnswer) -> bool {
     match answer {
         PowerAnswer::Accepted => true,
         PowerAnswer::Refused(why) => {
-            refuse(dir, why);
+            refuse(rt, dir, why);
             false
         }
     }
@@ -676,9 +686,10 @@ fn is_on(dir: &[u8], answer: PowerAnswer) -> bool {
 
 // `nib test`. What was powered, read whole, run and found as expected is stored, and by a command that may store alone.
 pub fn test_folder(
+    rt: HostRuntime,
     dir: &[u8],
     may: May,
-    input: i32,
+    input: &mut Source,
     out: &mut Paper,
     page: &mut Page,
     array: &mut Array,
@@ -686,21 +697,21 @@ pub fn test_folder(
     counts: &mut Counts,
     flags: &mut Flags,
 ) {
-    let part = load(dir, page, array, counts, flags);
+    let part = load(rt, dir, page, array, counts, flags);
     if !part.good {
         return;
     }
     let on = power(part, page, array, registers, counts, flags);
     let answer = on.answer;
     let target = on.target;
-    if !is_on(dir, answer) {
+    if !is_on(rt, dir, answer) {
         return;
     }
     let good = run_script(
-        target, input, out, part, page, array, registers, counts, flags,
+        rt, target, input, out, part, page, array, registers, counts, flags,
     );
     if good & may.store {
         let l = part.lengths;
-        store(dir, l, array, registers, counts);
+        store(rt, dir, l, array, registers, counts);
     }
 }

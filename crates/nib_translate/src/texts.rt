@@ -4,12 +4,11 @@ ghost use Rattle.std.specs.Prelude.{◌≡◌, ◌+◌, ◌<◌};
 use jobs::Job;
 use jobs::numbers::NamedJob;
 use jobs::writing::{Answer, write};
-use libc::{STDERR_FILENO, STDOUT_FILENO};
-use nib_files::files::{Input, read_input};
+use nib_files::files::{Input, Source, read_input};
 use nib_files::part::Shape;
 use nib_places::{Values, job_of, no_values, on_part, stored};
 use nib_print::input::{left, printable};
-use nib_print::pen::{Paper, Pen, begin, count, failed, flush, put, text};
+use nib_print::pen::{Paper, Pen, To, begin, count, failed, flush, put, text};
 use nib_print::say::{said, with_number};
 use nib_speech::pieces::{piece_words, reason};
 use nib_speech::states::wrong_number;
@@ -18,6 +17,7 @@ use nib_text::reading::{
     Reading, Said, Spot, begun, is_gap, is_wrong, next, spot_begun, spot_next,
 };
 use nib_text::writing::{Piece, Writing, writing_begun, wrote_end, wrote_next, wrote_odd};
+use std::io::Read;
 use target::Geometry;
 
 // As much of the last word as an error shows.
@@ -46,10 +46,10 @@ pub struct Text {
     pub given: usize,
 }
 
-pub fn text_begun(mute: bool, part: Shape) -> Text {
+pub fn text_begun(rt: HostRuntime, mute: bool, part: Shape) -> Text {
     let reading = begun(part.good);
     let spot = spot_begun();
-    let pen = begin(STDOUT_FILENO);
+    let pen = begin(rt, To::Output);
     let geometry = part.geometry;
     let values = no_values();
     Text {
@@ -183,10 +183,10 @@ fn reason_said(out: &mut Paper, p: Pen, read: Said) -> Pen {
 }
 
 // The line on standard error that names a bad word.
-fn tell_wrong(line: usize, spot: Spot, word: &[u8], size: usize, said: Said) {
+fn tell_wrong(rt: HostRuntime, line: usize, spot: Spot, word: &[u8], size: usize, said: Said) {
     let mut out = [0u8; 65536];
     let n = count(size, word);
-    let p = begin(STDERR_FILENO);
+    let p = begin(rt, To::Errors);
     let p = with_number(&mut out, p, b"nib: standard input, line ", line);
     let p = with_number(&mut out, p, b", place ", spot.start);
     let p = text(&mut out, p, b": '");
@@ -228,9 +228,9 @@ pub struct Step {
 }
 
 // The word is bad: it is told of, and nothing more is read.
-fn stopped(t: Text, line: usize, word: &Last, said: Said) -> Step {
+fn stopped(rt: HostRuntime, t: Text, line: usize, word: &Last, said: Said) -> Step {
     let spot = t.spot;
-    tell_wrong(line, spot, word, t.size, said);
+    tell_wrong(rt, line, spot, word, t.size, said);
     let text = Text { going: false, ..t };
     Step {
         text,
@@ -240,7 +240,7 @@ fn stopped(t: Text, line: usize, word: &Last, said: Said) -> Step {
     }
 }
 
-pub fn one_byte(t: Text, b: u8, word: &mut Last, data: &mut Data) -> Step {
+pub fn one_byte(rt: HostRuntime, t: Text, b: u8, word: &mut Last, data: &mut Data) -> Step {
     let r = t.reading;
     let s = t.spot;
     let g = t.geometry;
@@ -258,7 +258,7 @@ pub fn one_byte(t: Text, b: u8, word: &mut Last, data: &mut Data) -> Step {
         ..t
     };
     if is_wrong(said) {
-        return stopped(t, s.line, word, said);
+        return stopped(rt, t, s.line, word, said);
     }
     let text = valued(t, said, data);
     let values = text.values;
@@ -272,6 +272,7 @@ pub fn one_byte(t: Text, b: u8, word: &mut Last, data: &mut Data) -> Step {
 }
 
 fn text_byte(
+    rt: HostRuntime,
     t: Text,
     b: u8,
     out: &mut Paper,
@@ -282,7 +283,7 @@ fn text_byte(
     if !t.going {
         return t;
     }
-    let s = one_byte(t, b, word, data);
+    let s = one_byte(rt, t, b, word, data);
     let t = s.text;
     let said = s.said;
     let job = s.job;
@@ -305,6 +306,7 @@ fn place_after(i: usize, n: usize) -> usize
 }
 
 fn text_bytes(
+    rt: HostRuntime,
     from: Text,
     chunk: &[u8],
     out: &mut Paper,
@@ -315,7 +317,7 @@ fn text_bytes(
     let mut t = from;
     let mut i: usize = 0;
     while i < chunk.len() {
-        t = text_byte(t, chunk[i], out, word, data, room);
+        t = text_byte(rt, t, chunk[i], out, word, data, room);
         i = place_after(i, chunk.len());
     }
     t
@@ -323,6 +325,7 @@ fn text_bytes(
 
 // The whole text, and the line end that is read after it.
 fn text_whole(
+    rt: HostRuntime,
     mute: bool,
     part: Shape,
     whole: &[u8],
@@ -331,15 +334,24 @@ fn text_whole(
     room: &mut Room,
 ) -> Text {
     let mut word = [0u8; 32];
-    let t = text_bytes(text_begun(mute, part), whole, out, &mut word, data, room);
-    text_byte(t, b'\n', out, &mut word, data, room)
+    let t = text_bytes(
+        rt,
+        text_begun(rt, mute, part),
+        whole,
+        out,
+        &mut word,
+        data,
+        room,
+    );
+    text_byte(rt, t, b'\n', out, &mut word, data, room)
 }
 
 // As much text as is held.
 pub type Whole = [u8; 1048576];
 
-fn read_text(input: i32, whole: &mut Whole) -> Input {
+fn read_text(rt: HostRuntime, input: &mut Source, whole: &mut Whole) -> Input {
     read_input(
+        rt,
         input,
         whole,
         b": a text of more than ",
@@ -349,39 +361,40 @@ fn read_text(input: i32, whole: &mut Whole) -> Input {
 
 // Whether every word of a text is good; a bad one is told of.
 pub fn is_good(
+    rt: HostRuntime,
     part: Shape,
     whole: &[u8],
     out: &mut Paper,
     data: &mut Data,
     room: &mut Room,
 ) -> bool {
-    let seen = text_whole(true, part, whole, out, data, room);
+    let seen = text_whole(rt, true, part, whole, out, data, room);
     seen.going
 }
 
 // Looked at once, and then read.
-fn twice(part: Shape, whole: &[u8], n: usize, out: &mut Paper) {
+fn twice(rt: HostRuntime, part: Shape, whole: &[u8], n: usize, out: &mut Paper) {
     let n = count(n, whole);
     let mut data = [0u8; 350000];
     let mut room = [0u8; 700014];
-    if is_good(part, &whole[..n], out, &mut data, &mut room) {
-        let t = text_whole(false, part, &whole[..n], out, &mut data, &mut room);
+    if is_good(rt, part, &whole[..n], out, &mut data, &mut room) {
+        let t = text_whole(rt, false, part, &whole[..n], out, &mut data, &mut room);
         let p = t.pen;
         flush(out, p);
     }
 }
 
-fn whole_twice(part: Shape, whole: &Whole, n: usize, out: &mut Paper) {
-    twice(part, whole, n, out)
+fn whole_twice(rt: HostRuntime, part: Shape, whole: &Whole, n: usize, out: &mut Paper) {
+    twice(rt, part, whole, n, out)
 }
 
 // `nib text`. The whole text is looked at before a record is written: where a word is bad there is no trace, so that none is
 // run in part. Jobs are taken where a part is known.
-pub fn from_text(part: Shape, input: i32, out: &mut Paper) {
+pub fn from_text(rt: HostRuntime, part: Shape, input: &mut Source, out: &mut Paper) {
     let mut whole = [0u8; 1048576];
-    let got = read_text(input, &mut whole);
+    let got = read_text(rt, input, &mut whole);
     if got.good {
-        whole_twice(part, &whole, got.n, out);
+        whole_twice(rt, part, &whole, got.n, out);
     }
 }
 
@@ -390,7 +403,6 @@ pub fn from_text(part: Shape, input: i32, out: &mut Paper) {
 pub struct Back {
     pub writing: Writing,
     pub pen: Pen,
-    pub input: i32,
     pub going: bool,
 }
 
@@ -438,39 +450,40 @@ fn back_flushed(t: Back, out: &Paper, more: bool) -> Back {
     Back { pen, going, ..t }
 }
 
-fn back_turn(t: Back, out: &mut Paper) -> Back {
+fn back_turn(rt: HostRuntime, t: Back, input: &mut Source, out: &mut Paper) -> Back {
     let mut chunk = [0u8; 4096];
-    let got = libc::read(t.input, &mut chunk);
-    if got < 0 {
-        failed(b"standard input");
-        return Back { going: false, ..t };
+    match input.read(&mut chunk) {
+        Err(e) => {
+            failed(rt, b"standard input", &e);
+            Back { going: false, ..t }
+        }
+        Ok(0) => {
+            let t = back_end(t, out);
+            back_flushed(t, out, false)
+        }
+        Ok(n) => {
+            let t = back_bytes(t, &chunk[..n], out);
+            back_flushed(t, out, true)
+        }
     }
-    let n = io::count(got, &chunk);
-    if n == 0 {
-        let t = back_end(t, out);
-        return back_flushed(t, out, false);
-    }
-    let t = back_bytes(t, &chunk[..n], out);
-    back_flushed(t, out, true)
 }
 
-fn back_begun(input: i32) -> Back {
+fn back_begun(rt: HostRuntime) -> Back {
     let writing = writing_begun();
-    let pen = begin(STDOUT_FILENO);
+    let pen = begin(rt, To::Output);
     Back {
         writing,
         pen,
-        input,
         going: true,
     }
 }
 
 // `nib text -d`.
-pub fn to_text(input: i32, out: &mut Paper) {
-    let mut t = back_begun(input);
+pub fn to_text(rt: HostRuntime, input: &mut Source, out: &mut Paper) {
+    let mut t = back_begun(rt);
     let mut turns: u64 = 18446744073709551615;
     while 0 < turns {
-        t = back_turn(t, out);
+        t = back_turn(rt, t, input, out);
         turns = left(turns, t.going);
     }
 }

@@ -3,6 +3,7 @@
 // -t PART KIND: then only that line, with what happens on the way.
 #![tactic(auto)]
 
+use std::env::Env;
 use test_judge_lines::cases::run_power_line;
 use test_judge_lines::lines::run_line;
 use test_judge_parts::place;
@@ -27,16 +28,21 @@ fn value(s: &[u8]) -> usize {
 }
 
 // Argument number 'i', or 'other' where there is none.
-fn argument(i: usize, other: usize) -> usize {
+fn argument(rt: HostRuntime, i: usize, other: usize) -> usize {
     let mut text = [0u8; 32];
-    let n = os::arg(i, &mut text);
-    if n == 0 { other } else { value(&text[..n]) }
+    match rt.arg(i, &mut text) {
+        Ok(0) => other,
+        Ok(n) => value(&text[..n]),
+        Err(_) => other,
+    }
 }
 
-fn is_shown() -> bool {
+fn is_shown(rt: HostRuntime) -> bool {
     let mut text = [0u8; 32];
-    let n = os::arg(1, &mut text);
-    (n == 2) & (text[0] == 45) & (text[1] == 116)
+    match rt.arg(1, &mut text) {
+        Ok(n) => (n == 2) & (text[0] == 45) & (text[1] == 116),
+        Err(_) => false,
+    }
 }
 
 fn add_counts(total: &mut State, g: &State) {
@@ -56,6 +62,7 @@ fn add_up(total: &mut State, g: &State) {
 }
 
 fn one_line(
+    rt: HostRuntime,
     total: &mut State,
     shown: usize,
     seed: usize,
@@ -69,16 +76,27 @@ fn one_line(
     let mut g = [0usize; 8272];
     g[place::SHOW] = shown;
     if line < 374 {
-        run_line(&mut g, seed, count, line, fixed, array, registers, counts);
+        run_line(
+            rt, &mut g, seed, count, line, fixed, array, registers, counts,
+        );
     } else {
-        run_power_line(&mut g, seed, count, line, fixed, array, registers, counts);
+        run_power_line(
+            rt, &mut g, seed, count, line, fixed, array, registers, counts,
+        );
     }
-    print_line(&g, line / 17, line % 17);
+    print_line(rt, &g, line / 17, line % 17);
     add_up(total, &g);
 }
 
 // The lines from 'first' up to 'end'.
-fn all_lines(shown: usize, seed: usize, count: usize, first: usize, end: usize) -> State {
+fn all_lines(
+    rt: HostRuntime,
+    shown: usize,
+    seed: usize,
+    count: usize,
+    first: usize,
+    end: usize,
+) -> State {
     let mut total = [0usize; 8272];
     let mut fixed = [0u8; 8452];
     let mut array = [0u8; 131072];
@@ -87,6 +105,7 @@ fn all_lines(shown: usize, seed: usize, count: usize, first: usize, end: usize) 
     let mut line = first;
     while line < end {
         one_line(
+            rt,
             &mut total,
             shown,
             seed,
@@ -102,13 +121,20 @@ fn all_lines(shown: usize, seed: usize, count: usize, first: usize, end: usize) 
     total
 }
 
-fn main() {
-    if is_shown() {
-        let line = add(times(argument(2, 0), 17), argument(3, 0));
-        all_lines(1, argument(4, 1), argument(5, 1), line, add(line, 1));
+fn main(rt: HostRuntime) {
+    if is_shown(rt) {
+        let line = add(times(argument(rt, 2, 0), 17), argument(rt, 3, 0));
+        all_lines(
+            rt,
+            1,
+            argument(rt, 4, 1),
+            argument(rt, 5, 1),
+            line,
+            add(line, 1),
+        );
     } else {
-        print_heading();
-        let total = all_lines(0, argument(1, 1), argument(2, 1), 0, 378);
-        print_totals(&total);
+        print_heading(rt);
+        let total = all_lines(rt, 0, argument(rt, 1, 1), argument(rt, 2, 1), 0, 378);
+        print_totals(rt, &total);
     }
 }

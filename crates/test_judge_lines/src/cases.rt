@@ -143,6 +143,7 @@ fn make_case(g: &mut State, answer: usize) {
 
 // Powers on as lent: what came of it.
 fn power_as_lent(
+    rt: HostRuntime,
     g: &mut State,
     fixed: &Fixed,
     array: &Array,
@@ -154,25 +155,26 @@ fn power_as_lent(
     let r = power_number(answer) as usize;
     one_more(g, add(place::REFUSED, r));
     absorb_buffers(g, fixed, array, registers, counts);
-    show(g, b" power ", r, 0, 0, 0);
+    show(rt, g, b" power ", r, 0, 0, 0);
     let t = p.target;
-    absorb_blanks(t, g);
+    absorb_blanks(rt, t, g);
     make_case(g, r);
     t
 }
 
 // Powers on as lent, then tries each job on what came of it.
 fn power_case(
+    rt: HostRuntime,
     g: &mut State,
     fixed: &Fixed,
     array: &mut Array,
     registers: &mut Registers,
     counts: &mut Bytes,
 ) {
-    let t = power_as_lent(g, fixed, array, registers, counts);
-    run_trace(t, g, fixed, array, registers, counts);
+    let t = power_as_lent(rt, g, fixed, array, registers, counts);
+    run_trace(rt, t, g, fixed, array, registers, counts);
     absorb_buffers(g, fixed, array, registers, counts);
-    show(g, b" buffers ", 0, 0, 0, 0);
+    show(rt, g, b" buffers ", 0, 0, 0, 0);
     one_more(g, place::TRACE);
 }
 
@@ -218,6 +220,7 @@ fn small_part(
 
 // A small part with the damages 'one' and 'two', each 20 to 25 or 0 for none.
 fn damaged_case(
+    rt: HostRuntime,
     g: &mut State,
     one: usize,
     two: usize,
@@ -229,11 +232,12 @@ fn damaged_case(
     small_part(g, fixed, array, registers, counts);
     damage_part(g, one, two, fixed, counts);
     damage_page(g, one, two, fixed);
-    power_case(g, fixed, array, registers, counts);
+    power_case(rt, g, fixed, array, registers, counts);
 }
 
 // The smallest part with one field at a limit or past it.
 fn limit_case(
+    rt: HostRuntime,
     g: &mut State,
     i: usize,
     many: usize,
@@ -249,11 +253,12 @@ fn limit_case(
     g[field::COUNTS] = 0;
     fill_buffers(g, fixed, array, registers, counts);
     make_page(g, fixed);
-    power_case(g, fixed, array, registers, counts);
+    power_case(rt, g, fixed, array, registers, counts);
 }
 
 // One byte of a good page changed, the CRC mended.
 fn byte_case(
+    rt: HostRuntime,
     g: &mut State,
     at: usize,
     fixed: &mut Fixed,
@@ -267,11 +272,12 @@ fn byte_case(
     if at < 254 {
         mend_crc(fixed);
     }
-    power_case(g, fixed, array, registers, counts);
+    power_case(rt, g, fixed, array, registers, counts);
 }
 
 // Case number 'i' of a kind: single damages, pairs of damages, limits, bytes.
 fn one_case(
+    rt: HostRuntime,
     g: &mut State,
     kind: usize,
     i: usize,
@@ -281,8 +287,9 @@ fn one_case(
     counts: &mut Bytes,
 ) {
     match kind {
-        0 => damaged_case(g, 19 + i % 7, 0, fixed, array, registers, counts),
+        0 => damaged_case(rt, g, 19 + i % 7, 0, fixed, array, registers, counts),
         1 => damaged_case(
+            rt,
             g,
             first_of(i % 15),
             second_of(i % 15),
@@ -291,8 +298,8 @@ fn one_case(
             registers,
             counts,
         ),
-        2 => limit_case(g, i % 58, i / 58 % 2, fixed, array, registers, counts),
-        _ => byte_case(g, i % 256, fixed, array, registers, counts),
+        2 => limit_case(rt, g, i % 58, i / 58 % 2, fixed, array, registers, counts),
+        _ => byte_case(rt, g, i % 256, fixed, array, registers, counts),
     }
 }
 
@@ -328,6 +335,7 @@ fn cases(kind: usize, count: usize) -> usize {
 }
 
 pub fn run_power_line(
+    rt: HostRuntime,
     g: &mut State,
     seed: usize,
     count: usize,
@@ -344,7 +352,7 @@ pub fn run_power_line(
     let n = cases(kind, count);
     let mut i: usize = 0;
     while i < n {
-        one_case(g, kind, i, fixed, array, registers, counts);
+        one_case(rt, g, kind, i, fixed, array, registers, counts);
         i += 1;
     }
 }

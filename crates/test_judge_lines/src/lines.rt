@@ -61,6 +61,7 @@ fn change_contents(g: &mut State, kind: usize, fixed: &mut Fixed, counts: &mut B
 
 // A part's first record, its counts and flags as power-on wants them.
 fn first_record(
+    rt: HostRuntime,
     g: &mut State,
     fixed: &mut Fixed,
     array: &mut Array,
@@ -74,11 +75,12 @@ fn first_record(
     let answer = p.answer;
     let n = g[place::REGISTERS_LEN];
     absorb_front(g, registers, n);
-    show(g, b" power ", power_number(answer) as usize, 0, 0, 0);
+    show(rt, g, b" power ", power_number(answer) as usize, 0, 0, 0);
     p.target
 }
 
 fn power_up(
+    rt: HostRuntime,
     g: &mut State,
     kind: usize,
     fixed: &mut Fixed,
@@ -86,8 +88,8 @@ fn power_up(
     registers: &mut Registers,
     counts: &mut Bytes,
 ) -> Target {
-    let t = first_record(g, fixed, array, registers, counts);
-    absorb_blanks(t, g);
+    let t = first_record(rt, g, fixed, array, registers, counts);
+    absorb_blanks(rt, t, g);
     g[place::BUSY] = 0;
     g[place::SELECTED] = 0;
     change_contents(g, kind, fixed, counts);
@@ -96,6 +98,7 @@ fn power_up(
 
 // Trace number 'i' of a line.
 fn one_trace(
+    rt: HostRuntime,
     t: Target,
     g: &mut State,
     kind: usize,
@@ -108,18 +111,19 @@ fn one_trace(
     let fresh = chance(g, 3) | (i == 0) | (kind == 9);
     g[place::TRACE] = i;
     let n = if fresh {
-        power_up(g, kind, fixed, array, registers, counts)
+        power_up(rt, g, kind, fixed, array, registers, counts)
     } else {
         t
     };
     make_trace(g, kind, fresh);
-    let n = run_trace(n, g, fixed, array, registers, counts);
+    let n = run_trace(rt, n, g, fixed, array, registers, counts);
     absorb_buffers(g, fixed, array, registers, counts);
-    show(g, b" buffers ", 0, 0, 0, 0);
+    show(rt, g, b" buffers ", 0, 0, 0, 0);
     n
 }
 
 fn all_traces(
+    rt: HostRuntime,
     g: &mut State,
     kind: usize,
     traces: usize,
@@ -131,12 +135,13 @@ fn all_traces(
     let mut t = unpowered();
     let mut i: usize = 0;
     while i < traces {
-        t = one_trace(t, g, kind, i, fixed, array, registers, counts);
+        t = one_trace(rt, t, g, kind, i, fixed, array, registers, counts);
         i += 1;
     }
 }
 
 pub fn run_line(
+    rt: HostRuntime,
     g: &mut State,
     seed: usize,
     count: usize,
@@ -153,5 +158,5 @@ pub fn run_line(
     load_knobs(g, kind);
     fill_buffers(g, fixed, array, registers, counts);
     let traces = times(g[knob::TRACES], count);
-    all_traces(g, kind, traces, fixed, array, registers, counts);
+    all_traces(rt, g, kind, traces, fixed, array, registers, counts);
 }

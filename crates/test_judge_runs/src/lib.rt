@@ -45,7 +45,7 @@ fn tally(g: &mut State, kind: usize, reply: usize) {
 }
 
 // The reply to record number `i` of a batch, which begins at byte `at` of its trace.
-fn tally_reply(g: &mut State, these: &[u8], at: usize, replies: &Bytes, i: usize) {
+fn tally_reply(rt: HostRuntime, g: &mut State, these: &[u8], at: usize, replies: &Bytes, i: usize) {
     let from = times(i, 2);
     let kind = get(these, from);
     let reply = add(
@@ -55,14 +55,14 @@ fn tally_reply(g: &mut State, these: &[u8], at: usize, replies: &Bytes, i: usize
     tally(g, kind, reply);
     // past the end there is 0, as behind an odd byte
     let value = get(these, add(from, 1));
-    show(g, b" record ", add(at, from) / 2, kind, value, reply);
+    show(rt, g, b" record ", add(at, from) / 2, kind, value, reply);
 }
 
-fn tally_replies(g: &mut State, these: &[u8], at: usize, replies: &Bytes) {
+fn tally_replies(rt: HostRuntime, g: &mut State, these: &[u8], at: usize, replies: &Bytes) {
     let n = these.len() / 2 + these.len() % 2;
     let mut i: usize = 0;
     while i < n {
-        tally_reply(g, these, at, replies, i);
+        tally_reply(rt, g, these, at, replies, i);
         i += 1;
     }
 }
@@ -104,6 +104,7 @@ fn run_lent(
 
 // A batch with too little room, and its answer. Four reply bytes past the room needed are digested too, here and below.
 fn run_short(
+    rt: HostRuntime,
     t: Target,
     g: &mut State,
     these: &[u8],
@@ -124,12 +125,13 @@ fn run_short(
     if r == 16 {
         one_more(g, 64);
     }
-    show(g, b" room ", at / 2, room, r, 0);
+    show(rt, g, b" room ", at / 2, room, r, 0);
     ran.target
 }
 
 // A batch with room enough, and its replies.
 fn run_whole(
+    rt: HostRuntime,
     t: Target,
     g: &mut State,
     these: &[u8],
@@ -146,12 +148,13 @@ fn run_whole(
     let answer = ran.answer;
     absorb(g, run_number(answer) as usize);
     absorb_front(g, replies, add(need, 4));
-    tally_replies(g, these, at, replies);
+    tally_replies(rt, g, these, at, replies);
     ran.target
 }
 
 // Runs 'bytes' bytes from 'at' on; where the knob says so, first with too little room.
 fn run_batch(
+    rt: HostRuntime,
     t: Target,
     g: &mut State,
     records: &[u8],
@@ -167,6 +170,7 @@ fn run_batch(
     let mut replies = [238u8; 8192];
     let n = if sometimes(g, knob::SHORT) {
         run_short(
+            rt,
             t,
             g,
             these,
@@ -182,6 +186,7 @@ fn run_batch(
         t
     };
     run_whole(
+        rt,
         n,
         g,
         these,
@@ -219,6 +224,7 @@ fn step_lent(
 
 // One record by the call for one event.
 fn run_single(
+    rt: HostRuntime,
     t: Target,
     g: &mut State,
     records: &[u8],
@@ -239,7 +245,7 @@ fn run_single(
     let reply = reply_first(r) as usize * 256 + reply_second(r) as usize;
     absorb(g, reply);
     tally(g, kind, reply);
-    show(g, b" event ", at / 2, kind, value, reply);
+    show(rt, g, b" event ", at / 2, kind, value, reply);
     s.target
 }
 
@@ -252,7 +258,7 @@ fn source_number(s: Source) -> usize {
 }
 
 // The unread rest: where it lies, and its bytes.
-fn absorb_rest<'a>(t: Target, g: &mut State, page: &'a [u8], registers: &'a [u8]) {
+fn absorb_rest<'a>(rt: HostRuntime, t: Target, g: &mut State, page: &'a [u8], registers: &'a [u8]) {
     let p = count(g[place::PAGE_LEN], page);
     let r = count(g[place::REGISTERS_LEN], registers);
     let u = unread_part(t, p, r);
@@ -262,11 +268,11 @@ fn absorb_rest<'a>(t: Target, g: &mut State, page: &'a [u8], registers: &'a [u8]
     absorb(g, u.at);
     absorb(g, u.count);
     absorb_bytes(g, unread::rest(t, &page[..p], &registers[..r]));
-    show(g, b" rest ", which, u.at, u.count, 0);
+    show(rt, g, b" rest ", which, u.at, u.count, 0);
 }
 
 // The number of blank blocks that the record keeps, by LUN.
-pub fn absorb_blanks(t: Target, g: &mut State) {
+pub fn absorb_blanks(rt: HostRuntime, t: Target, g: &mut State) {
     let luns = t.luns;
     let a = blank_at(luns, 0) as usize;
     let b = blank_at(luns, 1) as usize;
@@ -276,12 +282,12 @@ pub fn absorb_blanks(t: Target, g: &mut State) {
     absorb(g, b);
     absorb(g, c);
     absorb(g, d);
-    show(g, b" blanks ", a, b, c, d);
+    show(rt, g, b" blanks ", a, b, c, d);
 }
 
 // The record's numbers that no reply need show: which LUNs have a copyback open, what is kept behind a status, and the blank
 // blocks.
-fn absorb_record(t: Target, g: &mut State) {
+fn absorb_record(rt: HostRuntime, t: Target, g: &mut State) {
     let luns = t.luns;
     let a = mark(copyback_at(luns, 0));
     let b = mark(copyback_at(luns, 1));
@@ -291,15 +297,15 @@ fn absorb_record(t: Target, g: &mut State) {
     absorb(g, b);
     absorb(g, c);
     absorb(g, d);
-    show(g, b" copybacks ", a, b, c, d);
+    show(rt, g, b" copybacks ", a, b, c, d);
     let decoder = t.decoder;
     let output = decoder.kept;
     let kept = kept_place(output);
     absorb(g, kept[0]);
     absorb(g, kept[1]);
     absorb(g, kept[2]);
-    show(g, b" kept ", kept[0], kept[1], kept[2], 0);
-    absorb_blanks(t, g);
+    show(rt, g, b" kept ", kept[0], kept[1], kept[2], 0);
+    absorb_blanks(rt, t, g);
 }
 
 // The kind of an output, its LUN and its next place.
@@ -334,6 +340,7 @@ fn spoiled_value(g: &mut State, what: usize) -> usize {
 
 // One event, then a trace of it and an odd byte; the numbers of blank blocks as they are left.
 fn run_copy(
+    rt: HostRuntime,
     c: Target,
     g: &mut State,
     what: usize,
@@ -346,16 +353,17 @@ fn run_copy(
 ) {
     let records = [kind, value, 0u8];
     let due = if is_legal(what) { g[61] } else { add(g[61], 1) };
-    let c = run_single(c, g, &records, 0, fixed, array, registers, counts);
+    let c = run_single(rt, c, g, &records, 0, fixed, array, registers, counts);
     if !(g[61] == due) {
         one_more(g, place::SURPRISES);
     }
-    let c = run_batch(c, g, &records, 0, 3, fixed, array, registers, counts);
-    absorb_blanks(c, g);
+    let c = run_batch(rt, c, g, &records, 0, 3, fixed, array, registers, counts);
+    absorb_blanks(rt, c, g);
 }
 
 // A copy that is spoiled.
 fn run_spoiled(
+    rt: HostRuntime,
     t: Target,
     g: &mut State,
     fixed: &Fixed,
@@ -367,27 +375,27 @@ fn run_spoiled(
     let follow = below(g, 2);
     let kind = byte(spoiled_kind(g, what));
     let value = byte(spoiled_value(g, what));
-    show(g, b" spoil ", what, follow, 0, 0);
+    show(rt, g, b" spoil ", what, follow, 0, 0);
     let c = spoiled(t, g, what);
     spoil_length(g, what);
     if (follow == 1) & (1 <= what) & (what <= 8) {
         follow_geometry(c, g);
     }
-    absorb_rest(c, g, fixed, registers);
-    run_copy(c, g, what, kind, value, fixed, array, registers, counts);
+    absorb_rest(rt, c, g, fixed, registers);
+    run_copy(rt, c, g, what, kind, value, fixed, array, registers, counts);
     measure(g);
 }
 
 // One time in eight the record itself gets an untrue number of blank blocks that 13 lets pass, 0 or all, and the trace goes on
 // with it: so programs meet a number that stops at 0, and erases one that stops at all.
-fn lie_blank(t: Target, g: &mut State) -> Target {
+fn lie_blank(rt: HostRuntime, t: Target, g: &mut State) -> Target {
     let what = below(g, 16);
     let lun = pick_lun(g);
     if 1 < what {
         return t;
     }
     let number = times(what, g[field::BLOCKS]);
-    show(g, b" lie ", lun, number, 0, 0);
+    show(rt, g, b" lie ", lun, number, 0, 0);
     with_blank(t, lun, number)
 }
 
@@ -404,6 +412,7 @@ fn batch_bytes(g: &mut State, at: usize, step: usize) -> usize {
 
 // One batch of a trace, at byte 'at'; with a step of one record, its event.
 fn run_next(
+    rt: HostRuntime,
     t: Target,
     g: &mut State,
     records: &Bytes,
@@ -416,14 +425,17 @@ fn run_next(
 ) -> Target {
     let bytes = batch_bytes(g, at, step);
     if step == 2 {
-        run_single(t, g, records, at, fixed, array, registers, counts)
+        run_single(rt, t, g, records, at, fixed, array, registers, counts)
     } else {
-        run_batch(t, g, records, at, bytes, fixed, array, registers, counts)
+        run_batch(
+            rt, t, g, records, at, bytes, fixed, array, registers, counts,
+        )
     }
 }
 
 // One batch of a trace, and what is looked at after it.
 fn run_some(
+    rt: HostRuntime,
     t: Target,
     g: &mut State,
     records: &Bytes,
@@ -434,12 +446,12 @@ fn run_some(
     registers: &mut Registers,
     counts: &mut Bytes,
 ) -> Target {
-    let n = run_next(t, g, records, at, step, fixed, array, registers, counts);
-    absorb_rest(n, g, fixed, registers);
-    absorb_record(n, g);
+    let n = run_next(rt, t, g, records, at, step, fixed, array, registers, counts);
+    absorb_rest(rt, n, g, fixed, registers);
+    absorb_record(rt, n, g);
     if sometimes(g, knob::SPOIL) {
-        run_spoiled(n, g, fixed, array, registers, counts);
-        lie_blank(n, g)
+        run_spoiled(rt, n, g, fixed, array, registers, counts);
+        lie_blank(rt, n, g)
     } else {
         n
     }
@@ -447,6 +459,7 @@ fn run_some(
 
 // A trace in batches of 'step' bytes; with a step of one record, event by event.
 fn run_records(
+    rt: HostRuntime,
     t: Target,
     g: &mut State,
     records: &Bytes,
@@ -462,6 +475,7 @@ fn run_records(
     let mut i: usize = 0;
     while i < batches {
         n = run_some(
+            rt,
             n,
             g,
             records,
@@ -479,6 +493,7 @@ fn run_records(
 
 // Runs the trace that was made.
 pub fn run_trace(
+    rt: HostRuntime,
     t: Target,
     g: &mut State,
     fixed: &Fixed,
@@ -488,7 +503,7 @@ pub fn run_trace(
 ) -> Target {
     let mut records = [0u8; 8192];
     give_trace(g, &mut records);
-    run_records(t, g, &records, fixed, array, registers, counts)
+    run_records(rt, t, g, &records, fixed, array, registers, counts)
 }
 
 // How many steps a length takes.

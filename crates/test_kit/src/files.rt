@@ -1,20 +1,75 @@
 // The files of a program's data/.
+ghost use Rattle.std.specs.Prelude.{◌≤◌, length};
 ghost use Rattle.io.specs.Counts.{IsPrefixLen};
 
 use crate::numbers::{add, count, hex_digit, set};
+use std::alloc::{AllocError, Global};
+use std::fs::File;
+use std::io::{Error, ErrorKind, Read, Write};
+
+// A path as text: std opens no other.
+pub fn text_of(path: &[u8]) -> Result<&str, Error> {
+    match std::str::from_utf8(path) {
+        Ok(text) => Ok(text),
+        Err(_) => Err(Error::from(ErrorKind::InvalidFilename)),
+    }
+}
+
+pub fn open(rt: HostRuntime, path: &[u8]) -> Result<File, Error> {
+    File::open(&rt, text_of(path)?)
+}
+
+// The system's words for an error alone, as C's strerror has them.
+fn words_of(alloc: Global, e: &Error) -> Result<String, AllocError> {
+    let all = format!(in alloc; "{e}")?;
+    match all.as_str().split_once(" (os error ") {
+        Some((front, _)) => String::from_str(alloc, front),
+        None => Ok(all),
+    }
+}
+
+fn tell(rt: HostRuntime, path: &[u8], e: &Error) -> Result<(), Error> {
+    let why = words_of(rt.alloc(), e)?;
+    let mut to = rt.stderr();
+    to.write_all(path)?;
+    to.write_all(b": ")?;
+    to.write_all(why.as_bytes())?;
+    to.write_all(b"\n")
+}
+
+// Reads until the buffer is full or the input ends; an input that fails has ended.
+fn read_full(file: File, to: &mut [u8]) -> usize
+    ensures { result ≤ length to.new }
+{
+    let mut input = file;
+    let mut at = 0;
+    for _ in 0..u64::MAX {
+        if at >= to.len() {
+            break;
+        }
+        match input.read(&mut to[at..]) {
+            Ok(0) => break,
+            Ok(n) => at += n,
+            Err(_) => break,
+        }
+    }
+    at
+}
 
 // As many bytes of a file as there is room for; none, and a line on standard error, where it can't be read.
-pub fn load(path: &[u8], to: &mut [u8]) -> usize
+pub fn load(rt: HostRuntime, path: &[u8], to: &mut [u8]) -> usize
     ensures { IsPrefixLen result to.new }
 {
-    let fd = os::open_read(path);
-    if fd < 0 {
-        os::fail(path);
-        return count(0, to);
+    match open(rt, path) {
+        Ok(file) => {
+            let n = read_full(file, to);
+            count(n, to)
+        }
+        Err(e) => {
+            let _ = tell(rt, path, &e);
+            count(0, to)
+        }
     }
-    let n = io::read_full(fd, to);
-    libc::close(fd);
-    count(n, to)
 }
 
 // How far a text of hex digits has come.
@@ -73,8 +128,8 @@ pub fn from_hex(said: &[u8], to: &mut [u8]) -> usize {
 }
 
 // The bytes of a file of hex digits.
-pub fn load_hex(path: &[u8], to: &mut [u8]) -> usize {
+pub fn load_hex(rt: HostRuntime, path: &[u8], to: &mut [u8]) -> usize {
     let mut said = [0u8; 8192];
-    let n = load(path, &mut said);
+    let n = load(rt, path, &mut said);
     from_hex(&said[..n], to)
 }

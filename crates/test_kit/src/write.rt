@@ -1,22 +1,22 @@
 // Writing lines.
-use libc::STDOUT_FILENO;
+use std::io::Write;
 
-pub fn text(s: &[u8]) {
-    io::write_all(STDOUT_FILENO, s);
+pub fn text(rt: HostRuntime, s: &[u8]) {
+    let _ = rt.stdout().write_all(s);
 }
 
-pub fn labelled(label: &[u8], n: usize) {
-    text(label);
-    io::print_decimal(STDOUT_FILENO, n as u64);
+pub fn labelled(rt: HostRuntime, label: &[u8], n: usize) {
+    text(rt, label);
+    let _ = print!(rt; "{n}");
 }
 
 // Four hex digits.
-pub fn hexed(label: &[u8], n: usize) {
-    text(label);
-    io::print_hex(STDOUT_FILENO, n as u64, 4);
+pub fn hexed(rt: HostRuntime, label: &[u8], n: usize) {
+    text(rt, label);
+    let _ = print!(rt; "{n:04x}");
 }
 
-pub fn line(label: &[u8], n: usize) {
-    labelled(label, n);
-    text(b"\n");
+pub fn line(rt: HostRuntime, label: &[u8], n: usize) {
+    labelled(rt, label, n);
+    text(rt, b"\n");
 }

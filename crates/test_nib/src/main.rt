@@ -5,6 +5,7 @@
 
 use nib_app::act;
 use nib_args::asked_of;
+use nib_files::files::{Source, open};
 use slices::part_of;
 use test_kit::files::load;
 use test_kit::numbers::{add, sub};
@@ -53,12 +54,13 @@ fn word_count(s: &[u8]) -> usize {
 }
 
 // A command by its words, as nib takes its own.
-fn command(s: &[u8], input: i32) {
+fn command(rt: HostRuntime, s: &[u8], input: &mut Source) {
     let mut out = [0u8; 65536];
     let second = word(s, 1);
     let third = word(s, 2);
     let asked = asked_of(add(word_count(s), 1), word(s, 0), second, third);
     act(
+        rt,
         asked,
         second,
         third,
@@ -69,23 +71,27 @@ fn command(s: &[u8], input: i32) {
     );
 }
 
-fn title(s: &[u8]) {
-    text(b"== ");
-    text(s);
-    text(b"\n");
+fn title(rt: HostRuntime, s: &[u8]) {
+    text(rt, b"== ");
+    text(rt, s);
+    text(rt, b"\n");
 }
 
-fn tried(line: &[u8]) {
+fn tried(rt: HostRuntime, line: &[u8]) {
     let bar = place(line, 0, b'<');
     let said = part_of(line, 0, sub(bar, 1));
-    title(said);
-    let input = os::open_read(part_of(line, add(bar, 2), line.len()));
-    command(part_of(said, 0, place(said, 0, b',')), input);
-    libc::close(input);
+    title(rt, said);
+    match open(rt, part_of(line, add(bar, 2), line.len())) {
+        Ok(file) => {
+            let mut input = Source::Named(file);
+            command(rt, part_of(said, 0, place(said, 0, b',')), &mut input);
+        }
+        Err(_) => text(rt, b"no such input\n"),
+    }
 }
 
 // Line after line; the number of turns only ends the loop, and is never met.
-fn all(s: &[u8]) {
+fn all(rt: HostRuntime, s: &[u8]) {
     let mut at: usize = 0;
     let mut turns: usize = 0;
     while turns < 1000 {
@@ -93,14 +99,14 @@ fn all(s: &[u8]) {
             return;
         }
         let end = place(s, at, b'\n');
-        tried(part_of(s, at, sub(end, at)));
+        tried(rt, part_of(s, at, sub(end, at)));
         at = add(end, 1);
         turns += 1;
     }
 }
 
-fn main() {
+fn main(rt: HostRuntime) {
     let mut said = [0u8; 4096];
-    let n = load(b"commands", &mut said);
-    all(&said[..n]);
+    let n = load(rt, b"commands", &mut said);
+    all(rt, &said[..n]);
 }

@@ -67,73 +67,74 @@ fn well() -> Harm {
     }
 }
 
-fn with_optional(n: usize, optional: usize) {
+fn with_optional(rt: HostRuntime, n: usize, optional: usize) {
     let t = t1();
-    run(n, Part { optional, ..t }, well());
+    run(rt, n, Part { optional, ..t }, well());
 }
 
-fn with_features(n: usize, features: usize) {
+fn with_features(rt: HostRuntime, n: usize, features: usize) {
     let t = t1();
-    run(n, Part { features, ..t }, well());
+    run(rt, n, Part { features, ..t }, well());
 }
 
-fn with_ids(n: usize, maker: u8, device: u8) {
+fn with_ids(rt: HostRuntime, n: usize, maker: u8, device: u8) {
     let t = t1();
-    run(n, Part { maker, device, ..t }, well());
+    run(rt, n, Part { maker, device, ..t }, well());
 }
 
-pub fn accepted() {
-    run(1, t1(), well());
-    run(2, t2(), well());
-    run(3, slim(), well());
-    with_optional(4, 0);
-    with_optional(5, 0x0004);
-    with_optional(6, 0x0008);
-    with_optional(7, 0x0040);
-    with_optional(8, 0xffff);
-    with_optional(9, 0xffb3);
-    with_features(10, 0x0002);
-    with_features(11, 0xfffe);
-    with_features(12, 0xfefe);
-    with_ids(13, 0, 0);
-    with_ids(14, 255, 1);
-    with_ids(15, 1, 255);
+pub fn accepted(rt: HostRuntime) {
+    run(rt, 1, t1(), well());
+    run(rt, 2, t2(), well());
+    run(rt, 3, slim(), well());
+    with_optional(rt, 4, 0);
+    with_optional(rt, 5, 0x0004);
+    with_optional(rt, 6, 0x0008);
+    with_optional(rt, 7, 0x0040);
+    with_optional(rt, 8, 0xffff);
+    with_optional(rt, 9, 0xffb3);
+    with_features(rt, 10, 0x0002);
+    with_features(rt, 11, 0xfffe);
+    with_features(rt, 12, 0xfefe);
+    with_ids(rt, 13, 0, 0);
+    with_ids(rt, 14, 255, 1);
+    with_ids(rt, 15, 1, 255);
 }
 
-fn with_data(n: usize, data: usize) {
+fn with_data(rt: HostRuntime, n: usize, data: usize) {
     let s = slim();
-    run(n, Part { data, ..s }, well());
+    run(rt, n, Part { data, ..s }, well());
 }
 
-fn with_spare(n: usize, spare: usize) {
+fn with_spare(rt: HostRuntime, n: usize, spare: usize) {
     let s = slim();
-    run(n, Part { spare, ..s }, well());
+    run(rt, n, Part { spare, ..s }, well());
 }
 
-fn with_pages(n: usize, pages: usize) {
+fn with_pages(rt: HostRuntime, n: usize, pages: usize) {
     let s = slim();
-    run(n, Part { pages, ..s }, well());
+    run(rt, n, Part { pages, ..s }, well());
 }
 
-fn with_blocks(n: usize, blocks: usize) {
+fn with_blocks(rt: HostRuntime, n: usize, blocks: usize) {
     let s = slim();
-    run(n, Part { blocks, ..s }, well());
+    run(rt, n, Part { blocks, ..s }, well());
 }
 
-fn with_luns(n: usize, luns: usize) {
+fn with_luns(rt: HostRuntime, n: usize, luns: usize) {
     let s = slim();
-    run(n, Part { luns, ..s }, well());
+    run(rt, n, Part { luns, ..s }, well());
 }
 
-fn with_programs(n: usize, programs: u8) {
+fn with_programs(rt: HostRuntime, n: usize, programs: u8) {
     let s = slim();
-    run(n, Part { programs, ..s }, well());
+    run(rt, n, Part { programs, ..s }, well());
 }
 
 // Pages of 16 bytes, one a block, for many blocks.
-fn thin(n: usize, blocks: usize, programs: u8) {
+fn thin(rt: HostRuntime, n: usize, blocks: usize, programs: u8) {
     let s = slim();
     run(
+        rt,
         n,
         Part {
             data: 16,
@@ -147,25 +148,26 @@ fn thin(n: usize, blocks: usize, programs: u8) {
     );
 }
 
-pub fn lowest() {
-    with_data(100, 16);
-    with_spare(101, 0);
-    with_pages(102, 1);
-    with_blocks(103, 1);
-    with_luns(104, 1);
-    with_programs(105, 1);
-    thin(106, 1, 1);
+pub fn lowest(rt: HostRuntime) {
+    with_data(rt, 100, 16);
+    with_spare(rt, 101, 0);
+    with_pages(rt, 102, 1);
+    with_blocks(rt, 103, 1);
+    with_luns(rt, 104, 1);
+    with_programs(rt, 105, 1);
+    thin(rt, 106, 1, 1);
 }
 
-pub fn highest() {
-    with_data(110, 16384);
-    with_spare(111, 2048);
-    with_pages(112, 256);
-    thin(113, 4096, 2);
-    with_luns(114, 4);
-    with_programs(115, 8);
+pub fn highest(rt: HostRuntime) {
+    with_data(rt, 110, 16384);
+    with_spare(rt, 111, 2048);
+    with_pages(rt, 112, 256);
+    thin(rt, 113, 4096, 2);
+    with_luns(rt, 114, 4);
+    with_programs(rt, 115, 8);
     let s = slim();
     run(
+        rt,
         116,
         Part {
             data: 16384,
@@ -179,24 +181,25 @@ pub fn highest() {
     );
 }
 
-pub fn outside() {
-    with_data(120, 15);
-    with_data(121, 16385);
-    with_spare(122, 2049);
-    with_pages(123, 0);
-    with_pages(124, 257);
-    with_blocks(125, 0);
-    thin(126, 4097, 2);
-    with_luns(127, 0);
-    with_luns(128, 5);
-    with_programs(129, 0);
-    with_programs(130, 9);
-    with_data(131, 0);
+pub fn outside(rt: HostRuntime) {
+    with_data(rt, 120, 15);
+    with_data(rt, 121, 16385);
+    with_spare(rt, 122, 2049);
+    with_pages(rt, 123, 0);
+    with_pages(rt, 124, 257);
+    with_blocks(rt, 125, 0);
+    thin(rt, 126, 4097, 2);
+    with_luns(rt, 127, 0);
+    with_luns(rt, 128, 5);
+    with_programs(rt, 129, 0);
+    with_programs(rt, 130, 9);
+    with_data(rt, 131, 0);
 }
 
-fn with_bits(n: usize, features: usize, luns: usize) {
+fn with_bits(rt: HostRuntime, n: usize, features: usize, luns: usize) {
     let s = slim();
     run(
+        rt,
         n,
         Part {
             features,
@@ -207,59 +210,59 @@ fn with_bits(n: usize, features: usize, luns: usize) {
     );
 }
 
-fn with_cycles(n: usize, cycles: u8) {
+fn with_cycles(rt: HostRuntime, n: usize, cycles: u8) {
     let s = slim();
-    run(n, Part { cycles, ..s }, well());
+    run(rt, n, Part { cycles, ..s }, well());
 }
 
 // Feature bits 0 and 1 against the number of LUNs, and byte 101.
-pub fn bits() {
-    with_bits(140, 0, 1);
-    with_bits(141, 1, 1);
-    with_bits(142, 3, 1);
-    with_bits(143, 0, 2);
-    with_bits(144, 0, 4);
-    with_bits(145, 2, 2);
-    with_bits(146, 0xfffd, 2);
-    with_bits(147, 0xfffc, 1);
-    with_cycles(150, 0);
-    with_cycles(151, 0x22);
-    with_cycles(152, 0x24);
-    with_cycles(153, 0x13);
-    with_cycles(154, 0x33);
-    with_cycles(155, 0x32);
-    with_cycles(156, 0xa3);
-    with_cycles(157, 0x2b);
+pub fn bits(rt: HostRuntime) {
+    with_bits(rt, 140, 0, 1);
+    with_bits(rt, 141, 1, 1);
+    with_bits(rt, 142, 3, 1);
+    with_bits(rt, 143, 0, 2);
+    with_bits(rt, 144, 0, 4);
+    with_bits(rt, 145, 2, 2);
+    with_bits(rt, 146, 0xfffd, 2);
+    with_bits(rt, 147, 0xfffc, 1);
+    with_cycles(rt, 150, 0);
+    with_cycles(rt, 151, 0x22);
+    with_cycles(rt, 152, 0x24);
+    with_cycles(rt, 153, 0x13);
+    with_cycles(rt, 154, 0x33);
+    with_cycles(rt, 155, 0x32);
+    with_cycles(rt, 156, 0xa3);
+    with_cycles(rt, 157, 0x2b);
 }
 
 // A byte of the page changed before the CRC is put in.
-fn with_early(n: usize, p: Part, early: usize, x: u8) {
+fn with_early(rt: HostRuntime, n: usize, p: Part, early: usize, x: u8) {
     let w = well();
-    run(n, p, Harm { early, x, ..w });
+    run(rt, n, p, Harm { early, x, ..w });
 }
 
 // One high bit in each byte of each size, with the buffers of the part without it; then sizes within the limits that are
 // not those of the buffers.
-pub fn high_bits() {
+pub fn high_bits(rt: HostRuntime) {
     let s = slim();
-    with_early(160, s, 81, 0x80);
-    with_early(161, s, 82, 1);
-    with_early(162, s, 83, 0x80);
-    with_early(163, s, 85, 0x80);
-    with_early(164, s, 93, 2);
-    with_early(165, s, 94, 1);
-    with_early(166, s, 95, 0x80);
-    with_early(167, s, 97, 0x20);
-    with_early(168, s, 98, 1);
-    with_early(169, s, 99, 0x80);
-    with_early(170, s, 100, 0x80);
-    with_early(171, s, 110, 0x80);
-    with_early(172, s, 80, 1);
-    with_early(173, s, 84, 1);
-    with_early(174, s, 92, 1);
-    with_early(175, s, 96, 1);
-    with_early(176, s, 100, 3);
-    with_early(177, s, 110, 1);
+    with_early(rt, 160, s, 81, 0x80);
+    with_early(rt, 161, s, 82, 1);
+    with_early(rt, 162, s, 83, 0x80);
+    with_early(rt, 163, s, 85, 0x80);
+    with_early(rt, 164, s, 93, 2);
+    with_early(rt, 165, s, 94, 1);
+    with_early(rt, 166, s, 95, 0x80);
+    with_early(rt, 167, s, 97, 0x20);
+    with_early(rt, 168, s, 98, 1);
+    with_early(rt, 169, s, 99, 0x80);
+    with_early(rt, 170, s, 100, 0x80);
+    with_early(rt, 171, s, 110, 0x80);
+    with_early(rt, 172, s, 80, 1);
+    with_early(rt, 173, s, 84, 1);
+    with_early(rt, 174, s, 92, 1);
+    with_early(rt, 175, s, 96, 1);
+    with_early(rt, 176, s, 100, 3);
+    with_early(rt, 177, s, 110, 1);
 }
 
 fn bit(m: usize, weight: usize) -> bool
@@ -269,7 +272,7 @@ fn bit(m: usize, weight: usize) -> bool
 }
 
 // T1, and T2 with another fault for each number: every set of the six refusals at once.
-fn set_1(m: usize) {
+fn set_1(rt: HostRuntime, m: usize) {
     let t = t1();
     let w = well();
     let p = Part {
@@ -287,10 +290,10 @@ fn set_1(m: usize) {
         count: pick_byte(bit(m, 32), 5, 0),
         ..w
     };
-    run(200 + m % 64, p, h);
+    run(rt, 200 + m % 64, p, h);
 }
 
-fn set_2(m: usize) {
+fn set_2(rt: HostRuntime, m: usize) {
     let t = t2();
     let w = well();
     let p = Part {
@@ -308,53 +311,54 @@ fn set_2(m: usize) {
         flag: pick_byte(bit(m, 32), 2, 1),
         ..w
     };
-    run(300 + m % 64, p, h);
+    run(rt, 300 + m % 64, p, h);
 }
 
-fn with_length(n: usize, length: usize) {
+fn with_length(rt: HostRuntime, n: usize, length: usize) {
     let w = well();
-    run(n, t1(), Harm { length, ..w });
+    run(rt, n, t1(), Harm { length, ..w });
 }
 
-fn with_late(n: usize, late: usize, y: u8) {
+fn with_late(rt: HostRuntime, n: usize, late: usize, y: u8) {
     let w = well();
-    run(n, t1(), Harm { late, y, ..w });
+    run(rt, n, t1(), Harm { late, y, ..w });
 }
 
-fn with_place(n: usize, place: usize, count: u8) {
+fn with_place(rt: HostRuntime, n: usize, place: usize, count: u8) {
     let w = well();
-    run(n, t1(), Harm { place, count, ..w });
+    run(rt, n, t1(), Harm { place, count, ..w });
 }
 
-fn with_block(n: usize, block: usize, flag: u8) {
+fn with_block(rt: HostRuntime, n: usize, block: usize, flag: u8) {
     let w = well();
-    run(n, t1(), Harm { block, flag, ..w });
+    run(rt, n, t1(), Harm { block, flag, ..w });
 }
 
-pub fn single() {
-    with_length(400, 0);
-    with_length(401, 1);
-    with_length(402, 253);
-    with_length(403, 254);
-    with_length(404, 255);
-    with_length(405, 257);
-    with_length(406, 300);
-    with_early(410, t1(), 0, 0x20);
-    with_early(411, t1(), 1, 0x20);
-    with_early(412, t1(), 2, 0x20);
-    with_early(413, t1(), 3, 0x20);
-    with_late(414, 254, 0x80);
-    with_late(415, 255, 1);
-    with_late(416, 4, 1);
-    with_late(417, 253, 0x80);
+pub fn single(rt: HostRuntime) {
+    with_length(rt, 400, 0);
+    with_length(rt, 401, 1);
+    with_length(rt, 402, 253);
+    with_length(rt, 403, 254);
+    with_length(rt, 404, 255);
+    with_length(rt, 405, 257);
+    with_length(rt, 406, 300);
+    with_early(rt, 410, t1(), 0, 0x20);
+    with_early(rt, 411, t1(), 1, 0x20);
+    with_early(rt, 412, t1(), 2, 0x20);
+    with_early(rt, 413, t1(), 3, 0x20);
+    with_late(rt, 414, 254, 0x80);
+    with_late(rt, 415, 255, 1);
+    with_late(rt, 416, 4, 1);
+    with_late(rt, 417, 253, 0x80);
 }
 
 // Each length one more, one less, and none at all.
-fn with_lengths(n: usize, how: u8) {
+fn with_lengths(rt: HostRuntime, n: usize, how: u8) {
     let w = well();
     let at = n % 4;
-    run(420 + at, t1(), Harm { array: how, ..w });
+    run(rt, 420 + at, t1(), Harm { array: how, ..w });
     run(
+        rt,
         424 + at,
         t1(),
         Harm {
@@ -362,39 +366,39 @@ fn with_lengths(n: usize, how: u8) {
             ..w
         },
     );
-    run(428 + at, t1(), Harm { counts: how, ..w });
-    run(432 + at, t1(), Harm { flags: how, ..w });
+    run(rt, 428 + at, t1(), Harm { counts: how, ..w });
+    run(rt, 432 + at, t1(), Harm { flags: how, ..w });
 }
 
-pub fn contents() {
-    with_lengths(0, 1);
-    with_lengths(1, 2);
-    with_lengths(2, 3);
-    with_place(440, 0, 4);
-    with_place(441, 0, 5);
-    with_place(442, 63, 4);
-    with_place(443, 63, 5);
-    with_place(444, 31, 255);
-    with_place(445, 64, 255);
-    with_block(450, 0, 1);
-    with_block(451, 0, 2);
-    with_block(452, 15, 0);
-    with_block(453, 15, 2);
-    with_block(454, 7, 255);
-    with_block(455, 16, 255);
+pub fn contents(rt: HostRuntime) {
+    with_lengths(rt, 0, 1);
+    with_lengths(rt, 1, 2);
+    with_lengths(rt, 2, 3);
+    with_place(rt, 440, 0, 4);
+    with_place(rt, 441, 0, 5);
+    with_place(rt, 442, 63, 4);
+    with_place(rt, 443, 63, 5);
+    with_place(rt, 444, 31, 255);
+    with_place(rt, 445, 64, 255);
+    with_block(rt, 450, 0, 1);
+    with_block(rt, 451, 0, 2);
+    with_block(rt, 452, 15, 0);
+    with_block(rt, 453, 15, 2);
+    with_block(rt, 454, 7, 255);
+    with_block(rt, 455, 16, 255);
 }
 
 const BITS: [u8; 8] = [1, 2, 4, 8, 16, 32, 64, 128];
 
 // T1 with one byte of the page changed: after the CRC was put in, and before.
-fn late_byte(k: usize) {
+fn late_byte(rt: HostRuntime, k: usize) {
     let at = k % 8;
-    with_late(1000 + k % 256, k, BITS[at]);
+    with_late(rt, 1000 + k % 256, k, BITS[at]);
 }
 
-fn early_byte(k: usize) {
+fn early_byte(rt: HostRuntime, k: usize) {
     let x = 1 + (k % 256) * 37 % 255;
-    with_early(2000 + k % 256, t1(), k, byte(x));
+    with_early(rt, 2000 + k % 256, t1(), k, byte(x));
 }
 
 const DATA: [usize; 8] = [16, 17, 20, 32, 64, 100, 128, 15];
@@ -449,40 +453,41 @@ fn drawn_harm(x: usize) -> Harm {
     }
 }
 
-fn drawn_case(n: usize, x: usize) -> usize {
+fn drawn_case(rt: HostRuntime, n: usize, x: usize) -> usize {
     let y = drawn(x);
     let z = drawn(y);
-    run(3000 + n % 256, drawn_part(y, n), drawn_harm(z));
+    run(rt, 3000 + n % 256, drawn_part(y, n), drawn_harm(z));
     z
 }
 
 // Case `n` of a group, and the next drawn number.
-fn one(group: u8, n: usize, x: usize) -> usize {
+fn one(rt: HostRuntime, group: u8, n: usize, x: usize) -> usize {
     match group {
-        1 => set_1(n),
-        2 => set_2(n),
-        3 => late_byte(n),
-        4 => early_byte(n),
+        1 => set_1(rt, n),
+        2 => set_2(rt, n),
+        3 => late_byte(rt, n),
+        4 => early_byte(rt, n),
         _ => {
-            return drawn_case(n, x);
+            return drawn_case(rt, n, x);
         }
     }
     x
 }
 
-pub fn many(group: u8, count: usize) {
+pub fn many(rt: HostRuntime, group: u8, count: usize) {
     let mut x: usize = SEED;
     let mut n = 0;
     while n < count {
-        x = one(group, n, x);
+        x = one(rt, group, n, x);
         n += 1;
     }
 }
 
 // Pages by the largest sizes, where the counts still fit.
-fn largest(n: usize, pages: usize, blocks: usize, luns: usize) {
+fn largest(rt: HostRuntime, n: usize, pages: usize, blocks: usize, luns: usize) {
     let s = slim();
     large(
+        rt,
         n,
         Part {
             data: 16384,
@@ -509,14 +514,15 @@ fn gibs() -> Part {
     }
 }
 
-fn gibs_moved(n: usize, array: u8) {
+fn gibs_moved(rt: HostRuntime, n: usize, array: u8) {
     let w = well();
-    large(n, gibs(), Harm { array, ..w });
+    large(rt, n, gibs(), Harm { array, ..w });
 }
 
-fn large_outside(n: usize, data: usize, pages: usize, blocks: usize, luns: usize) {
+fn large_outside(rt: HostRuntime, n: usize, data: usize, pages: usize, blocks: usize, luns: usize) {
     let s = slim();
     large(
+        rt,
         n,
         Part {
             data,
@@ -529,18 +535,19 @@ fn large_outside(n: usize, data: usize, pages: usize, blocks: usize, luns: usize
     );
 }
 
-pub fn larges() {
-    largest(1, 256, 1, 4);
-    largest(2, 1, 4096, 4);
-    largest(3, 256, 1024, 4);
-    largest(4, 64, 4096, 4);
-    largest(5, 256, 4096, 1);
-    gibs_moved(6, 0);
-    gibs_moved(7, 1);
-    gibs_moved(8, 2);
-    gibs_moved(9, 3);
+pub fn larges(rt: HostRuntime) {
+    largest(rt, 1, 256, 1, 4);
+    largest(rt, 2, 1, 4096, 4);
+    largest(rt, 3, 256, 1024, 4);
+    largest(rt, 4, 64, 4096, 4);
+    largest(rt, 5, 256, 4096, 1);
+    gibs_moved(rt, 6, 0);
+    gibs_moved(rt, 7, 1);
+    gibs_moved(rt, 8, 2);
+    gibs_moved(rt, 9, 3);
     let w = well();
     large(
+        rt,
         10,
         gibs(),
         Harm {
@@ -549,8 +556,8 @@ pub fn larges() {
             ..w
         },
     );
-    large_outside(11, 16385, 256, 1024, 1);
-    large_outside(12, 64, 257, 1024, 1);
-    large_outside(13, 64, 128, 4097, 1);
-    large_outside(14, 64, 16, 4096, 5);
+    large_outside(rt, 11, 16385, 256, 1024, 1);
+    large_outside(rt, 12, 64, 257, 1024, 1);
+    large_outside(rt, 13, 64, 128, 4097, 1);
+    large_outside(rt, 14, 64, 16, 4096, 5);
 }

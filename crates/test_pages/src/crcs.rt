@@ -4,28 +4,28 @@ use test_kit::write::{hexed, text};
 use test_pages_powers::powers::small;
 
 // An entry of the CRC's table: 4Fh takes the start value to 4E00h, and the next byte looks up its place alone.
-fn entry(i: u8) {
-    small(b"entry ", i);
-    hexed(b" ", crc_of(&[0x4f, 0x4e ^ i]) as usize);
-    text(b"\n");
+fn entry(rt: HostRuntime, i: u8) {
+    small(rt, b"entry ", i);
+    hexed(rt, b" ", crc_of(&[0x4f, 0x4e ^ i]) as usize);
+    text(rt, b"\n");
 }
 
-pub fn entries() {
-    entry(1);
-    entry(2);
-    entry(3);
-    entry(255);
+pub fn entries(rt: HostRuntime) {
+    entry(rt, 1);
+    entry(rt, 2);
+    entry(rt, 3);
+    entry(rt, 255);
 }
 
-fn known(label: &[u8], s: &[u8]) {
-    text(label);
-    hexed(b" ", crc_of(s) as usize);
-    text(b"\n");
+fn known(rt: HostRuntime, label: &[u8], s: &[u8]) {
+    text(rt, label);
+    hexed(rt, b" ", crc_of(s) as usize);
+    text(rt, b"\n");
 }
 
-pub fn knowns() {
-    known(b"crc of nothing", b"");
-    known(b"crc of 123456789", b"123456789");
-    known(b"crc of 254 times 00", &[0u8; 254]);
-    known(b"crc of 254 times ff", &[0xffu8; 254]);
+pub fn knowns(rt: HostRuntime) {
+    known(rt, b"crc of nothing", b"");
+    known(rt, b"crc of 123456789", b"123456789");
+    known(rt, b"crc of 254 times 00", &[0u8; 254]);
+    known(rt, b"crc of 254 times ff", &[0xffu8; 254]);
 }

@@ -10,23 +10,23 @@ use cases::{accepted, bits, contents, high_bits, highest, larges, lowest, many, 
 use crcs::{entries, knowns};
 use makers::{draw_pages, makers_pages};
 
-fn main() {
-    entries();
-    knowns();
-    makers_pages();
-    draw_pages();
-    accepted();
-    lowest();
-    highest();
-    outside();
-    bits();
-    high_bits();
-    many(1, 64);
-    many(2, 64);
-    single();
-    contents();
-    many(3, 256);
-    many(4, 254);
-    many(5, 256);
-    larges();
+fn main(rt: HostRuntime) {
+    entries(rt);
+    knowns(rt);
+    makers_pages(rt);
+    draw_pages(rt);
+    accepted(rt);
+    lowest(rt);
+    highest(rt);
+    outside(rt);
+    bits(rt);
+    high_bits(rt);
+    many(rt, 1, 64);
+    many(rt, 2, 64);
+    single(rt);
+    contents(rt);
+    many(rt, 3, 256);
+    many(rt, 4, 254);
+    many(rt, 5, 256);
+    larges(rt);
 }

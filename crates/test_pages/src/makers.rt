@@ -13,28 +13,28 @@ use test_pages_powers::parts::{front, lengths_of, plus};
 use test_pages_powers::powers::{flagged, small};
 
 // A maker's page.
-fn show_kind(page: &[u8]) {
-    flagged(b" signed ", is_signed(page));
-    flagged(b" good ", crc_good(page));
-    labelled(b" features ", features(page) as usize);
-    labelled(b" optional ", optional_commands(page) as usize);
-    small(b" maker ", maker_id(page));
+fn show_kind(rt: HostRuntime, page: &[u8]) {
+    flagged(rt, b" signed ", is_signed(page));
+    flagged(rt, b" good ", crc_good(page));
+    labelled(rt, b" features ", features(page) as usize);
+    labelled(rt, b" optional ", optional_commands(page) as usize);
+    small(rt, b" maker ", maker_id(page));
 }
 
-fn show_sizes(page: &[u8]) {
-    labelled(b" data ", data_bytes(page));
-    labelled(b" spare ", spare_bytes(page));
-    labelled(b" pages ", pages_a_block(page));
-    labelled(b" blocks ", blocks_a_lun(page));
-    labelled(b" luns ", lun_count(page));
+fn show_sizes(rt: HostRuntime, page: &[u8]) {
+    labelled(rt, b" data ", data_bytes(page));
+    labelled(rt, b" spare ", spare_bytes(page));
+    labelled(rt, b" pages ", pages_a_block(page));
+    labelled(rt, b" blocks ", blocks_a_lun(page));
+    labelled(rt, b" luns ", lun_count(page));
 }
 
-fn show_fields(page: &[u8]) {
-    show_kind(page);
-    show_sizes(page);
-    small(b" cycles ", address_cycles(page));
-    labelled(b" programs ", programs_a_page(page));
-    flagged(b" limits ", fields_in_limits(page));
+fn show_fields(rt: HostRuntime, page: &[u8]) {
+    show_kind(rt, page);
+    show_sizes(rt, page);
+    small(rt, b" cycles ", address_cycles(page));
+    labelled(rt, b" programs ", programs_a_page(page));
+    flagged(rt, b" limits ", fields_in_limits(page));
 }
 
 // Power-on with the lengths that the page gives: its array is above 4 GiB, and goes in as a length.
@@ -58,35 +58,35 @@ fn answer_of(page: &[u8]) -> u8 {
     answer_on(page, &counts, &flags)
 }
 
-fn show_maker(k: usize, page: &[u8]) {
-    labelled(b"maker ", k);
-    hexed(b" crc ", page_crc(page) as usize);
-    hexed(b" stored ", stored_crc(page) as usize);
-    show_fields(page);
-    small(b" answer ", answer_of(page));
-    text(b"\n");
+fn show_maker(rt: HostRuntime, k: usize, page: &[u8]) {
+    labelled(rt, b"maker ", k);
+    hexed(rt, b" crc ", page_crc(page) as usize);
+    hexed(rt, b" stored ", stored_crc(page) as usize);
+    show_fields(rt, page);
+    small(rt, b" answer ", answer_of(page));
+    text(rt, b"\n");
 }
 
-fn maker(all: &[u8], k: usize) {
+fn maker(rt: HostRuntime, all: &[u8], k: usize) {
     let from = k % 12 * 256;
     let to = from + 256;
     if to <= all.len() {
-        show_maker(k, &all[from..to]);
+        show_maker(rt, k, &all[from..to]);
     }
 }
 
-fn each_maker(all: &[u8]) {
+fn each_maker(rt: HostRuntime, all: &[u8]) {
     let mut k = 0;
     while k < 12 {
-        maker(all, k);
+        maker(rt, all, k);
         k += 1;
     }
 }
 
-pub fn makers_pages() {
+pub fn makers_pages(rt: HostRuntime) {
     let mut all = [0u8; 3072];
-    let n = load(b"makers", &mut all);
-    each_maker(&all[..n]);
+    let n = load(rt, b"makers", &mut all);
+    each_maker(rt, &all[..n]);
 }
 
 // 256 drawn pages of 256 drawn bytes.
@@ -101,24 +101,24 @@ fn draw(page: &mut [u8; 256], from: usize) -> usize {
     x
 }
 
-fn show_crc(n: usize, page: &[u8; 256]) {
-    labelled(b"crc ", n);
-    hexed(b" ", page_crc(page) as usize);
-    text(b"\n");
+fn show_crc(rt: HostRuntime, n: usize, page: &[u8; 256]) {
+    labelled(rt, b"crc ", n);
+    hexed(rt, b" ", page_crc(page) as usize);
+    text(rt, b"\n");
 }
 
-fn draw_page(n: usize, from: usize) -> usize {
+fn draw_page(rt: HostRuntime, n: usize, from: usize) -> usize {
     let mut page = [0u8; 256];
     let x = draw(&mut page, from);
-    show_crc(n, &page);
+    show_crc(rt, n, &page);
     x
 }
 
-pub fn draw_pages() {
+pub fn draw_pages(rt: HostRuntime) {
     let mut x: usize = SEED;
     let mut n = 0;
     while n < 256 {
-        x = draw_page(n, x);
+        x = draw_page(rt, n, x);
         n += 1;
     }
 }

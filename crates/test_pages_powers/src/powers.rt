@@ -10,71 +10,72 @@ use test_kit::numbers::{count, set, wide};
 use test_kit::random::digest;
 use test_kit::write::{labelled, text};
 
-pub fn small(label: &[u8], n: u8) {
-    labelled(label, n as usize)
+pub fn small(rt: HostRuntime, label: &[u8], n: u8) {
+    labelled(rt, label, n as usize)
 }
 
-pub fn flagged(label: &[u8], b: bool) {
-    small(label, pick_byte(b, 1, 0))
+pub fn flagged(rt: HostRuntime, label: &[u8], b: bool) {
+    small(rt, label, pick_byte(b, 1, 0))
 }
 
-fn digested(label: &[u8], s: &[u8]) {
-    labelled(label, digest(s));
+fn digested(rt: HostRuntime, label: &[u8], s: &[u8]) {
+    labelled(rt, label, digest(s));
 }
 
-fn show_lun(t: Target, l: usize) {
+fn show_lun(rt: HostRuntime, t: Target, l: usize) {
     let luns = t.luns;
-    flagged(b" ", works(luns, l));
+    flagged(rt, b" ", works(luns, l));
 }
 
-fn show_fail(t: Target, l: usize) {
+fn show_fail(rt: HostRuntime, t: Target, l: usize) {
     let luns = t.luns;
-    flagged(b" ", failed(luns, l));
+    flagged(rt, b" ", failed(luns, l));
 }
 
 // Whether each LUN works, and its FAIL.
-fn show_luns(t: Target) {
-    text(b" working");
-    show_lun(t, 0);
-    show_lun(t, 1);
-    show_lun(t, 2);
-    show_lun(t, 3);
-    text(b" fail");
-    show_fail(t, 0);
-    show_fail(t, 1);
-    show_fail(t, 2);
-    show_fail(t, 3);
+fn show_luns(rt: HostRuntime, t: Target) {
+    text(rt, b" working");
+    show_lun(rt, t, 0);
+    show_lun(rt, t, 1);
+    show_lun(rt, t, 2);
+    show_lun(rt, t, 3);
+    text(rt, b" fail");
+    show_fail(rt, t, 0);
+    show_fail(rt, t, 1);
+    show_fail(rt, t, 2);
+    show_fail(rt, t, 3);
 }
 
-fn show_sizes(t: Target) {
+fn show_sizes(rt: HostRuntime, t: Target) {
     let g = t.geometry;
-    labelled(b" sizes ", page_size(g));
-    labelled(b" ", g.pages);
-    labelled(b" ", g.blocks);
-    labelled(b" ", g.luns);
-    labelled(b" ", g.programs);
+    labelled(rt, b" sizes ", page_size(g));
+    labelled(rt, b" ", g.pages);
+    labelled(rt, b" ", g.blocks);
+    labelled(rt, b" ", g.luns);
+    labelled(rt, b" ", g.programs);
 }
 
-fn show_target(t: Target) {
-    show_sizes(t);
+fn show_target(rt: HostRuntime, t: Target) {
+    show_sizes(rt, t);
     // 78h, 06h, EEh and EFh, and program-clear
     let w = t.words;
-    flagged(b" options ", has_option(w, 3));
-    flagged(b" ", has_option(w, 6));
-    flagged(b" ", has_option(w, 2));
-    flagged(b" ", has_feature(w, 8));
+    flagged(rt, b" options ", has_option(w, 3));
+    flagged(rt, b" ", has_option(w, 6));
+    flagged(rt, b" ", has_option(w, 2));
+    flagged(rt, b" ", has_feature(w, 8));
     let ids = t.ids;
-    small(b" ids ", ids.maker);
-    small(b" ", ids.device);
-    flagged(b" line ", t.high);
-    flagged(b" clear ", t.clear);
-    flagged(b" seen ", t.seen);
-    labelled(b" selected ", t.selected);
-    show_luns(t);
+    small(rt, b" ids ", ids.maker);
+    small(rt, b" ", ids.device);
+    flagged(rt, b" line ", t.high);
+    flagged(rt, b" clear ", t.clear);
+    flagged(rt, b" seen ", t.seen);
+    labelled(rt, b" selected ", t.selected);
+    show_luns(rt, t);
 }
 
 // One power-on, and its line.
 fn power(
+    rt: HostRuntime,
     n: usize,
     page: &[u8],
     device: u8,
@@ -86,22 +87,23 @@ fn power(
     let done = power_on(page, device, array, registers, counts, flags);
     let answer = done.answer;
     let t = done.target;
-    labelled(b"power ", n);
-    small(b" answer ", power_number(answer));
-    digested(b" page ", page);
-    digested(b" array ", array);
-    digested(b" registers ", registers);
-    digested(b" counts ", counts);
-    digested(b" flags ", flags);
-    flagged(b" powered ", t.powered);
+    labelled(rt, b"power ", n);
+    small(rt, b" answer ", power_number(answer));
+    digested(rt, b" page ", page);
+    digested(rt, b" array ", array);
+    digested(rt, b" registers ", registers);
+    digested(rt, b" counts ", counts);
+    digested(rt, b" flags ", flags);
+    flagged(rt, b" powered ", t.powered);
     if t.powered {
-        show_target(t);
+        show_target(rt, t);
     }
-    text(b"\n");
+    text(rt, b"\n");
 }
 
 // The registers are the first `k` bytes of those lent.
 fn power_front(
+    rt: HostRuntime,
     n: usize,
     page: &[u8],
     device: u8,
@@ -112,11 +114,21 @@ fn power_front(
     flags: &[u8],
 ) {
     let m = count(k, registers);
-    power(n, page, device, array, &mut registers[..m], counts, flags);
+    power(
+        rt,
+        n,
+        page,
+        device,
+        array,
+        &mut registers[..m],
+        counts,
+        flags,
+    );
 }
 
 // Lays out the lent memory of a case, and powers on.
 fn run_on(
+    rt: HostRuntime,
     n: usize,
     p: Part,
     h: Harm,
@@ -135,6 +147,7 @@ fn run_on(
     set(flags, h.block, wide(h.flag));
     make_page(page, p, h);
     power_front(
+        rt,
         n,
         front(page, h.length),
         p.device,
@@ -146,13 +159,14 @@ fn run_on(
     );
 }
 
-pub fn run(n: usize, p: Part, h: Harm) {
+pub fn run(rt: HostRuntime, n: usize, p: Part, h: Harm) {
     let mut page = [0u8; 300];
     let mut array = [0u8; 300000];
     let mut registers = [0u8; 73728];
     let mut counts = [0u8; 16384];
     let mut flags = [0u8; 16384];
     run_on(
+        rt,
         n,
         p,
         h,
@@ -166,6 +180,7 @@ pub fn run(n: usize, p: Part, h: Harm) {
 
 // The answer alone, where the array and the registers are only lengths.
 fn large_on(
+    rt: HostRuntime,
     n: usize,
     p: Part,
     h: Harm,
@@ -179,6 +194,7 @@ fn large_on(
     set(counts, h.place, wide(h.count));
     make_page(page, p, h);
     show_large(
+        rt,
         n,
         front(page, h.length),
         l,
@@ -187,19 +203,19 @@ fn large_on(
     );
 }
 
-pub fn large(n: usize, p: Part, h: Harm) {
+pub fn large(rt: HostRuntime, n: usize, p: Part, h: Harm) {
     let mut page = [0u8; 300];
     let mut counts = [0u8; 1048576];
     let mut flags = [0u8; 20480];
-    large_on(n, p, h, &mut page, &mut counts, &mut flags);
+    large_on(rt, n, p, h, &mut page, &mut counts, &mut flags);
 }
 
-fn show_large(n: usize, page: &[u8], l: Lengths, counts: &[u8], flags: &[u8]) {
+fn show_large(rt: HostRuntime, n: usize, page: &[u8], l: Lengths, counts: &[u8], flags: &[u8]) {
     let answer = power_answer(page, l.array, l.registers, counts, flags);
-    labelled(b"large ", n);
-    small(b" answer ", power_number(answer));
-    digested(b" page ", page);
-    digested(b" counts ", counts);
-    digested(b" flags ", flags);
-    text(b"\n");
+    labelled(rt, b"large ", n);
+    small(rt, b" answer ", power_number(answer));
+    digested(rt, b" page ", page);
+    digested(rt, b" counts ", counts);
+    digested(rt, b" flags ", flags);
+    text(rt, b"\n");
 }

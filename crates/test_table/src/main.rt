@@ -59,6 +59,7 @@ fn noted(
 
 // What the word asks of the model.
 fn asked(
+    rt: HostRuntime,
     t: Target,
     n: &mut Numbers,
     tape: &mut Tape,
@@ -75,29 +76,31 @@ fn asked(
     let y = n[place::SECOND];
     match n[place::DUE] {
         // O
-        79 => power(n, x, page, first, flags, array, registers, counts, expected),
+        79 => power(
+            rt, n, x, page, first, flags, array, registers, counts, expected,
+        ),
         // I
-        73 => events(t, n, times, page, flags, array, registers, counts),
+        73 => events(rt, t, n, times, page, flags, array, registers, counts),
         // X
         88 => {
-            cell(t, n, page, flags, array, registers, counts);
+            cell(rt, t, n, page, flags, array, registers, counts);
             t
         }
         // R
         82 => spoiled(t, x, y),
         // Q
         81 => {
-            buffers_compared(n, expected, array, registers, counts);
+            buffers_compared(rt, n, expected, array, registers, counts);
             t
         }
         // Y
-        89 => traced(t, n, tape, page, flags, array, registers, counts),
+        89 => traced(rt, t, n, tape, page, flags, array, registers, counts),
         _ => t,
     }
 }
 
 // The first `size` bytes of the text.
-fn table(text: &Text, size: usize, n: &mut Numbers) {
+fn table(rt: HostRuntime, text: &Text, size: usize, n: &mut Numbers) {
     let mut tape = [0xeeu8; 128];
     let mut page = [0u8; 257];
     let mut first = [0u8; 65];
@@ -110,7 +113,7 @@ fn table(text: &Text, size: usize, n: &mut Numbers) {
     let mut i: usize = 0;
     while i < size {
         let c = byte(get(text, i));
-        take(n, c);
+        take(rt, n, c);
         noted(
             n,
             &mut tape,
@@ -120,6 +123,7 @@ fn table(text: &Text, size: usize, n: &mut Numbers) {
             &mut expected,
         );
         t = asked(
+            rt,
             t,
             n,
             &mut tape,
@@ -137,49 +141,59 @@ fn table(text: &Text, size: usize, n: &mut Numbers) {
 }
 
 // What was read.
-fn read_summary(n: &Numbers) {
-    labelled(b"states ", n[place::STATES]);
-    labelled(b"\ncells ", n[place::CELLS]);
-    labelled(b"\ncases ", n[place::CASES]);
+fn read_summary(rt: HostRuntime, n: &Numbers) {
+    labelled(rt, b"states ", n[place::STATES]);
+    labelled(rt, b"\ncells ", n[place::CELLS]);
+    labelled(rt, b"\ncases ", n[place::CASES]);
 }
 
 // What was compared.
-fn compared_summary(n: &Numbers) {
-    labelled(b"\npower-ons compared ", n[place::POWERS]);
-    labelled(b"\nbyte traces compared ", n[place::RUNS]);
-    labelled(b"\nreplies compared ", n[place::REPLIES]);
+fn compared_summary(rt: HostRuntime, n: &Numbers) {
+    labelled(rt, b"\npower-ons compared ", n[place::POWERS]);
+    labelled(rt, b"\nbyte traces compared ", n[place::RUNS]);
+    labelled(rt, b"\nreplies compared ", n[place::REPLIES]);
     labelled(
+        rt,
         b"\nbytes of array, registers, counts and reply rooms compared ",
         n[place::BYTES],
     );
 }
 
 // What was found.
-fn found_summary(n: &Numbers) {
-    labelled(b"\nrefused cells found to change no byte ", n[place::KEPT]);
+fn found_summary(rt: HostRuntime, n: &Numbers) {
     labelled(
+        rt,
+        b"\nrefused cells found to change no byte ",
+        n[place::KEPT],
+    );
+    labelled(
+        rt,
         b"\nexpectations wrong on purpose and found so ",
         n[place::FOUND],
     );
-    labelled(b"\nmismatches ", n[place::MISMATCHES]);
-    text(b"\n");
+    labelled(rt, b"\nmismatches ", n[place::MISMATCHES]);
+    text(rt, b"\n");
 }
 
-fn summary(n: &Numbers) {
-    read_summary(n);
-    compared_summary(n);
-    found_summary(n);
+fn summary(rt: HostRuntime, n: &Numbers) {
+    read_summary(rt, n);
+    compared_summary(rt, n);
+    found_summary(rt, n);
 }
 
-fn main() {
+fn load_text(rt: HostRuntime, path: &[u8], to: &mut Text) -> usize {
+    load(rt, path, to)
+}
+
+fn main(rt: HostRuntime) {
     let mut text = [0u8; 524288];
     let mut n = [0usize; 30];
     n[place::LINE] = 1;
     new_word(&mut n);
-    let size = load(b"table", &mut text);
-    table(&text, size, &mut n);
+    let size = load_text(rt, b"table", &mut text);
+    table(rt, &text, size, &mut n);
     // its lines are counted on from the first file's
-    let size = load(b"table2", &mut text);
-    table(&text, size, &mut n);
-    summary(&n);
+    let size = load_text(rt, b"table2", &mut text);
+    table(rt, &text, size, &mut n);
+    summary(rt, &n);
 }

@@ -35,6 +35,7 @@ fn expect_power(expected: &mut Expected, first: &Few, accepted: bool) {
 
 // Power-on with everything as new; `answer` is expected, 0 for accepted.
 pub fn power(
+    rt: HostRuntime,
     n: &mut Numbers,
     answer: usize,
     page: &Page,
@@ -60,7 +61,7 @@ pub fn power(
     );
     let a = on.answer;
     let got = power_number(a) as usize;
-    compared(n, place::POWERS, b", power-on ", 0, answer, got);
+    compared(rt, n, place::POWERS, b", power-on ", 0, answer, got);
     on.target
 }
 
@@ -92,6 +93,7 @@ fn shown(n: &Numbers, got: usize) -> usize {
 
 // One event, and its reply compared with the one that is due.
 fn answered(
+    rt: HostRuntime,
     t: Target,
     n: &mut Numbers,
     e: Event,
@@ -107,12 +109,13 @@ fn answered(
     let s = lent_step(t, lengths(n), e, page, array, registers, counts, flags);
     let r = s.reply;
     let got = shown(n, answer_of(r));
-    compared(n, place::REPLIES, what, at, due, got);
+    compared(rt, n, place::REPLIES, what, at, due, got);
     s.target
 }
 
 // Event number `i` of a word, on the part itself.
 fn one_event(
+    rt: HostRuntime,
     t: Target,
     n: &mut Numbers,
     i: usize,
@@ -125,6 +128,7 @@ fn one_event(
     let e = event(n[place::FIRST]);
     let due = n[place::SECOND];
     answered(
+        rt,
         t,
         n,
         e,
@@ -141,6 +145,7 @@ fn one_event(
 
 // A word of events: the same one so many times.
 pub fn events(
+    rt: HostRuntime,
     t: Target,
     n: &mut Numbers,
     times: usize,
@@ -153,7 +158,7 @@ pub fn events(
     let mut last = t;
     let mut i: usize = 0;
     while i < times {
-        last = one_event(last, n, i, page, flags, array, registers, counts);
+        last = one_event(rt, last, n, i, page, flags, array, registers, counts);
         i += 1;
     }
     last
@@ -161,6 +166,7 @@ pub fn events(
 
 // A cell: the event and then a data out, on copies.
 fn tried(
+    rt: HostRuntime,
     t: Target,
     n: &mut Numbers,
     page: &Page,
@@ -172,6 +178,7 @@ fn tried(
     let e = event(n[place::FIRST]);
     let due = n[place::SECOND];
     let t = answered(
+        rt,
         t,
         n,
         e,
@@ -187,6 +194,7 @@ fn tried(
     let e = event(0x0300);
     let due = n[place::THIRD];
     answered(
+        rt,
         t,
         n,
         e,
@@ -203,6 +211,7 @@ fn tried(
 
 // A refused event changes no lent byte: all that changes one does so "when it is accepted".
 fn unchanged(
+    rt: HostRuntime,
     n: &mut Numbers,
     array: &Array,
     registers: &Registers,
@@ -221,10 +230,11 @@ fn unchanged(
             differing(counts, counts_after, c),
         ),
     );
-    compared(n, place::KEPT, b", bytes changed ", 0, 0, m);
+    compared(rt, n, place::KEPT, b", bytes changed ", 0, 0, m);
 }
 
 pub fn cell(
+    rt: HostRuntime,
     t: Target,
     n: &mut Numbers,
     page: &Page,
@@ -237,14 +247,15 @@ pub fn cell(
     let mut r = *registers;
     let mut c = *counts;
     counted(n, place::CELLS);
-    tried(t, n, page, flags, &mut a, &mut r, &mut c);
+    tried(rt, t, n, page, flags, &mut a, &mut r, &mut c);
     if n[place::SECOND] / 256 == 2 {
-        unchanged(n, array, registers, counts, &a, &r, &c);
+        unchanged(rt, n, array, registers, counts, &a, &r, &c);
     }
 }
 
 // All three buffers.
 pub fn buffers_compared(
+    rt: HostRuntime,
     n: &mut Numbers,
     expected: &Expected,
     array: &Array,
@@ -254,13 +265,22 @@ pub fn buffers_compared(
     let a = n[place::ARRAY_LEN];
     let r = n[place::REGISTERS_LEN];
     let c = n[place::COUNTS_LEN];
-    buffer_compared(n, b", array byte ", expected, 0, a, array);
-    buffer_compared(n, b", register byte ", expected, REGISTERS_AT, r, registers);
-    buffer_compared(n, b", count ", expected, COUNTS_AT, c, counts);
+    buffer_compared(rt, n, b", array byte ", expected, 0, a, array);
+    buffer_compared(
+        rt,
+        n,
+        b", register byte ",
+        expected,
+        REGISTERS_AT,
+        r,
+        registers,
+    );
+    buffer_compared(rt, n, b", count ", expected, COUNTS_AT, c, counts);
 }
 
 // A byte trace, its answer as a whole and every byte of its reply room.
 pub fn traced(
+    rt: HostRuntime,
     t: Target,
     n: &mut Numbers,
     tape: &mut Tape,
@@ -287,8 +307,8 @@ pub fn traced(
     let answer = ran.answer;
     let got = run_number(answer) as usize;
     let due = n[place::SECOND];
-    compared(n, place::RUNS, b", run ", 0, due, got);
-    buffer_compared(n, b", reply byte ", tape, ROOM_AT, 64, &room);
+    compared(rt, n, place::RUNS, b", run ", 0, due, got);
+    buffer_compared(rt, n, b", reply byte ", tape, ROOM_AT, 64, &room);
     n[place::TRACE_LEN] = 0;
     *tape = [0xee; 128];
     ran.target

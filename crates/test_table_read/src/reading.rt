@@ -37,7 +37,7 @@ fn any_digit(n: &mut Numbers) {
     n[place::ANY] = 1;
 }
 
-fn letter(n: &mut Numbers, c: u8) {
+fn letter(rt: HostRuntime, n: &mut Numbers, c: u8) {
     match c {
         b'0'..=b'9' => digit(n, c - b'0'),
         b'A'..=b'F' => digit(n, c - 55),
@@ -47,7 +47,7 @@ fn letter(n: &mut Numbers, c: u8) {
             n[place::VALUE] = 0;
         }
         b':' | b'=' | b'>' => keep_field(n),
-        _ => unreadable(n, c),
+        _ => unreadable(rt, n, c),
     }
 }
 
@@ -63,7 +63,7 @@ fn new_case(n: &mut Numbers, kind: usize) {
 }
 
 // A line's letter. P and Q are done with no word.
-fn begin(n: &mut Numbers, c: u8) {
+fn begin(rt: HostRuntime, n: &mut Numbers, c: u8) {
     n[place::TAG] = c as usize;
     match c {
         b'S' => new_case(n, place::STATES),
@@ -71,20 +71,20 @@ fn begin(n: &mut Numbers, c: u8) {
         b'W' => n[place::WRONG] = 1,
         b'P' | b'Q' => n[place::GIVEN] = 1,
         b'#' | b'A' | b'C'..=b'G' | b'I' | b'K' | b'L' | b'O' | b'R' | b'V' | b'X' | b'Y' => {}
-        _ => unreadable(n, c),
+        _ => unreadable(rt, n, c),
     }
 }
 
-fn inside(n: &mut Numbers, c: u8) {
+fn inside(rt: HostRuntime, n: &mut Numbers, c: u8) {
     if n[place::TAG] == 0 {
-        begin(n, c);
+        begin(rt, n, c);
     } else if !is_named(n[place::TAG]) {
-        letter(n, c);
+        letter(rt, n, c);
     }
 }
 
 // One character. Where it ends a word, what the word says is due.
-pub fn take(n: &mut Numbers, c: u8) {
+pub fn take(rt: HostRuntime, n: &mut Numbers, c: u8) {
     match c {
         b' ' | b'\n' => {
             if n[place::GIVEN] == 1 {
@@ -92,7 +92,7 @@ pub fn take(n: &mut Numbers, c: u8) {
                 n[place::DUE] = n[place::TAG];
             }
         }
-        _ => inside(n, c),
+        _ => inside(rt, n, c),
     }
 }
 

@@ -177,6 +177,7 @@ fn by_events(
 
 // A way's replies and buffers against those of the byte trace.
 fn compared(
+    rt: HostRuntime,
     way: &[u8],
     room: &Room,
     array: &Array,
@@ -187,29 +188,34 @@ fn compared(
     other_registers: &Registers,
     other_counts: &Counts,
 ) {
-    text(way);
+    text(rt, way);
     line(
+        rt,
         b": reply bytes that differ ",
         differing(room, other_room, 49160),
     );
-    text(way);
+    text(rt, way);
     line(
+        rt,
         b": array bytes that differ ",
         differing(array, other_array, 33792),
     );
-    text(way);
+    text(rt, way);
     line(
+        rt,
         b": register bytes that differ ",
         differing(registers, other_registers, 1056),
     );
-    text(way);
+    text(rt, way);
     line(
+        rt,
         b": counts that differ ",
         differing(counts, other_counts, 64),
     );
 }
 
 fn second_way(
+    rt: HostRuntime,
     t: Target,
     page: &Page,
     records: &Records,
@@ -223,10 +229,13 @@ fn second_way(
     let mut r = [0xffu8; 1056];
     let mut c = [0u8; 64];
     by_batches(t, records, &mut m, page, &mut a, &mut r, &mut c, &GOOD);
-    compared(b"batches", room, array, registers, counts, &m, &a, &r, &c);
+    compared(
+        rt, b"batches", room, array, registers, counts, &m, &a, &r, &c,
+    );
 }
 
 fn third_way(
+    rt: HostRuntime,
     t: Target,
     page: &Page,
     records: &Records,
@@ -241,6 +250,7 @@ fn third_way(
     let mut c = [0u8; 64];
     by_events(t, records, &mut m, page, &mut a, &mut r, &mut c, &GOOD);
     compared(
+        rt,
         b"one at a time",
         room,
         array,
@@ -253,14 +263,21 @@ fn third_way(
     );
 }
 
-fn power(page: &Page, array: &Array, registers: &mut Registers, counts: &Counts) -> Target {
+fn power(
+    rt: HostRuntime,
+    page: &Page,
+    array: &Array,
+    registers: &mut Registers,
+    counts: &Counts,
+) -> Target {
     let on = power_on(page, 0x68, array, registers, counts, &GOOD);
     let answer = on.answer;
-    line(b"power-on answers ", power_number(answer) as usize);
+    line(rt, b"power-on answers ", power_number(answer) as usize);
     on.target
 }
 
 fn first_way(
+    rt: HostRuntime,
     t: Target,
     page: &Page,
     records: &Records,
@@ -271,26 +288,28 @@ fn first_way(
 ) {
     let ran = run(t, records, room, page, array, registers, counts, &GOOD);
     let answer = ran.answer;
-    line(b"the byte trace answers ", run_number(answer) as usize);
+    line(rt, b"the byte trace answers ", run_number(answer) as usize);
 }
 
 // What the byte trace did.
-fn told(room: &Room, array: &Array) {
-    line(b"records ", 49152 / 2);
-    line(b"refused ", refusals(room));
+fn told(rt: HostRuntime, room: &Room, array: &Array) {
+    line(rt, b"records ", 49152 / 2);
+    line(rt, b"refused ", refusals(room));
     line(
+        rt,
         b"array bytes changed ",
         differing(array, &[0xffu8; 33792], 33792),
     );
 }
 
-fn all_ways(page: &Page, records: &Records) {
+fn all_ways(rt: HostRuntime, page: &Page, records: &Records) {
     let mut array = [0xffu8; 33792];
     let mut registers = [0u8; 1056];
     let mut counts = [0u8; 64];
     let mut room = [0xeeu8; 49160];
-    let t = power(page, &array, &mut registers, &counts);
+    let t = power(rt, page, &array, &mut registers, &counts);
     first_way(
+        rt,
         t,
         page,
         records,
@@ -299,17 +318,17 @@ fn all_ways(page: &Page, records: &Records) {
         &mut registers,
         &mut counts,
     );
-    told(&room, &array);
-    second_way(t, page, records, &room, &array, &registers, &counts);
-    third_way(t, page, records, &room, &array, &registers, &counts);
+    told(rt, &room, &array);
+    second_way(rt, t, page, records, &room, &array, &registers, &counts);
+    third_way(rt, t, page, records, &room, &array, &registers, &counts);
 }
 
-fn main() {
+fn main(rt: HostRuntime) {
     let mut page = [0u8; 256];
     let mut script = [0u8; 384];
     let mut records = [0u8; 49152];
-    load_hex(b"t1", &mut page);
-    load_hex(b"script", &mut script);
+    load_hex(rt, b"t1", &mut page);
+    load_hex(rt, b"script", &mut script);
     lay_trace(&mut records, &script);
-    all_ways(&page, &records);
+    all_ways(rt, &page, &records);
 }
