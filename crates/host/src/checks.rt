@@ -6,7 +6,7 @@ ghost use Rattle.page_check.specs.Report.{Reported, report_of};
 // copy, 16 room for fewer than nine.
 #[unsafe(no_mangle)]
 pub extern "C" fn nib_page_report(answer: &[u8], report: &mut [u64]) -> u32
-    ensures { ◌≡◌ {A = Reported} (record { answer = result; room = report.new }) (report_of answer.entry.now report.old) }
+    ensures { ◌≡◌ {A = Reported} (record { answer = result; room = report.new }) (report_of answer.now report.old) }
 {
     page_check::report::report(answer, report)
 }

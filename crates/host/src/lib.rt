@@ -270,8 +270,8 @@ pub fn event_on(
     flags: &[u8],
 ) -> Answered
     ensures { ◌≡◌ {A = HostEvent}
-        (record { answer = result.answer; image = result.image; buffers = record { array = array.exit.now; registers = registers.new; counts = counts.new } })
-        (event_on i kind value page.now (record { array = array.entry.now; registers = registers.old; counts = counts.old }) flags.now) }
+        (record { answer = result.answer; image = result.image; buffers = record { array = array.new; registers = registers.new; counts = counts.new } })
+        (event_on i kind value page.now (record { array = array.old; registers = registers.old; counts = counts.old }) flags.now) }
 {
     let e = Event { kind, value };
     let ok = good(i);
@@ -296,8 +296,8 @@ pub fn trace_on(
     flags: &[u8],
 ) -> Answered
     ensures { ◌≡◌ {A = HostTrace}
-        (record { answer = result.answer; image = result.image; buffers = record { array = array.exit.now; registers = registers.new; counts = counts.new }; room = replies.new })
-        (trace_on i records.now replies.old page.now (record { array = array.entry.now; registers = registers.old; counts = counts.old }) flags.now) }
+        (record { answer = result.answer; image = result.image; buffers = record { array = array.new; registers = registers.new; counts = counts.new }; room = replies.new })
+        (trace_on i records.now replies.old page.now (record { array = array.old; registers = registers.old; counts = counts.old }) flags.now) }
 {
     let ok = good(i);
     let s = trace::run(
@@ -379,8 +379,8 @@ pub extern "C" fn nib_event(
     flags: &[u8],
 ) -> u32
     ensures { ◌≡◌ {A = HostEvent}
-        (record { answer = result; image = t.new; buffers = record { array = array.exit.now; registers = registers.new; counts = counts.new } })
-        (event_on t.old kind value page.now (record { array = array.entry.now; registers = registers.old; counts = counts.old }) flags.now) }
+        (record { answer = result; image = t.new; buffers = record { array = array.new; registers = registers.new; counts = counts.new } })
+        (event_on t.old kind value page.now (record { array = array.old; registers = registers.old; counts = counts.old }) flags.now) }
 {
     let s = event_on(*t, kind, value, page, array, registers, counts, flags);
     *t = s.image;
@@ -400,8 +400,8 @@ pub extern "C" fn nib_trace(
     flags: &[u8],
 ) -> u32
     ensures { ◌≡◌ {A = HostTrace}
-        (record { answer = result; image = t.new; buffers = record { array = array.exit.now; registers = registers.new; counts = counts.new }; room = replies.new })
-        (trace_on t.old records.now replies.old page.now (record { array = array.entry.now; registers = registers.old; counts = counts.old }) flags.now) }
+        (record { answer = result; image = t.new; buffers = record { array = array.new; registers = registers.new; counts = counts.new }; room = replies.new })
+        (trace_on t.old records.now replies.old page.now (record { array = array.old; registers = registers.old; counts = counts.old }) flags.now) }
 {
     let s = trace_on(*t, records, replies, page, array, registers, counts, flags);
     *t = s.image;

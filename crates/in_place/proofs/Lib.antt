@@ -1,4 +1,2 @@
-pub mod Again
-pub mod Relend
 pub mod Fold
 pub mod Alike

@@ -1,6 +1,5 @@
-// References to structs: one event over a record that is lent, and batches of events that are held as records in memory. The
-// borrow checker covers neither form, so each function over one is as thin as it can be. Programs in Rattle call `step_lent`
-// and `run_some`, which hold the record and the events themselves.
+// References to structs: one event over a record that is lent, and batches of events that are held as records in memory. Each
+// function over one is as thin as it can be. `step_lent` and `run_some` hold the record and the events themselves.
 #![tactic(auto)]
 
 ghost use Rattle.std.specs.Prelude.{◌≡◌, ◌+◌, ◌*◌, ◌<◌, min, length, take};
@@ -23,15 +22,15 @@ pub fn step_in_place(
     flags: &[u8],
 ) -> Reply
     ensures { ◌≡◌ {A = Outcome}
-        (record { reply = result; target = t.new; buffers = record { array = array.exit.now; registers = registers.new; counts = counts.new } })
-        (step_of t.old e params.now (record { array = array.entry.now; registers = registers.old; counts = counts.old }) flags.now) }
+        (record { reply = result; target = t.new; buffers = record { array = array.new; registers = registers.new; counts = counts.new } })
+        (step_of t.old e params.now (record { array = array.old; registers = registers.old; counts = counts.old }) flags.now) }
 {
     let s = step::step(*t, e, params, array, registers, counts, flags);
     *t = s.target;
     s.reply
 }
 
-// The same on a record that is held here: whoever calls it lends no record, and needs no proof by hand.
+// The same on a record that is held here: whoever calls it lends no record.
 pub fn step_lent(
     mut t: Target,
     e: Event,
@@ -42,8 +41,8 @@ pub fn step_lent(
     flags: &[u8],
 ) -> Stepped
     ensures { ◌≡◌ {A = Outcome}
-        (record { reply = result.reply; target = result.target; buffers = record { array = array.exit.now; registers = registers.new; counts = counts.new } })
-        (step_of t e params.now (record { array = array.entry.now; registers = registers.old; counts = counts.old }) flags.now) }
+        (record { reply = result.reply; target = result.target; buffers = record { array = array.new; registers = registers.new; counts = counts.new } })
+        (step_of t e params.now (record { array = array.old; registers = registers.old; counts = counts.old }) flags.now) }
 {
     let reply = step_in_place(&mut t, e, params, array, registers, counts, flags);
     Stepped { reply, target: t }
@@ -63,9 +62,9 @@ fn run_one(
 ) -> Target
     requires { 2 * i + 1 < length replies.old }
     ensures { ◌≡◌ {A = Running}
-        (record { target = result; done = i + 1; buffers = record { array = array.exit.now; registers = registers.new; counts = counts.new }; room = replies.new })
+        (record { target = result; done = i + 1; buffers = record { array = array.new; registers = registers.new; counts = counts.new }; room = replies.new })
         (one_more params.now flags.now
-        (record { target = t; done = i; buffers = record { array = array.entry.now; registers = registers.old; counts = counts.old }; room = replies.old })
+        (record { target = t; done = i; buffers = record { array = array.old; registers = registers.old; counts = counts.old }; room = replies.old })
         e) }
 {
     let s = step::step(t, e, params, array, registers, counts, flags);
@@ -109,8 +108,8 @@ pub fn run_batch(
     replies: &mut [u8],
 ) -> Ran
     ensures { ◌≡◌ {A = Traced}
-        (record { answer = result.answer; target = result.target; buffers = record { array = array.exit.now; registers = registers.new; counts = counts.new }; room = replies.new })
-        (batch_of t events.now replies.old params.now (record { array = array.entry.now; registers = registers.old; counts = counts.old }) flags.now) }
+        (record { answer = result.answer; target = result.target; buffers = record { array = array.new; registers = registers.new; counts = counts.new }; room = replies.new })
+        (batch_of t events.now replies.old params.now (record { array = array.old; registers = registers.old; counts = counts.old }) flags.now) }
 {
     let plan = batch_plan(events.len(), replies.len());
     let mut i: usize = 0;
@@ -136,8 +135,7 @@ fn lesser(n: usize, size: usize) -> usize
 // Events that a program holds itself.
 pub type Held = [Event; 64];
 
-// A batch of the first `n` events of an array that is held here, or of all 64: whoever calls it lends no events, and needs no
-// proof by hand.
+// A batch of the first `n` events of an array that is held here, or of all 64: whoever calls it lends no events.
 pub fn run_some(
     t: Target,
     events: Held,
@@ -150,8 +148,8 @@ pub fn run_some(
     replies: &mut [u8],
 ) -> Ran
     ensures { ◌≡◌ {A = Traced}
-        (record { answer = result.answer; target = result.target; buffers = record { array = array.exit.now; registers = registers.new; counts = counts.new }; room = replies.new })
-        (batch_of t (take n events) replies.old params.now (record { array = array.entry.now; registers = registers.old; counts = counts.old }) flags.now) }
+        (record { answer = result.answer; target = result.target; buffers = record { array = array.new; registers = registers.new; counts = counts.new }; room = replies.new })
+        (batch_of t (take n events) replies.old params.now (record { array = array.old; registers = registers.old; counts = counts.old }) flags.now) }
 {
     let k = lesser(n, 64);
     run_batch(

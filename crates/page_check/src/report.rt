@@ -45,7 +45,7 @@ fn put_numbers(k: usize, c: Checked, room: &mut [u64])
 // 0, and the first nine numbers are the report; or why there is none, and the room stays as it is: 1 another length than 768,
 // 2 no good copy, 16 room for fewer than nine numbers.
 pub fn report(answer: &[u8], room: &mut [u64]) -> u32
-    ensures { ◌≡◌ {A = Reported} (record { answer = result; room = room.new }) (report_of answer.entry.now room.old) }
+    ensures { ◌≡◌ {A = Reported} (record { answer = result; room = room.new }) (report_of answer.now room.old) }
 {
     if room.len() < 9 {
         return 16;

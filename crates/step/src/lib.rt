@@ -49,8 +49,8 @@ fn accept(
     requires e_value { verdict t e ≡ verdicts.Accepted }
     requires sizes { Sizes t.geometry array.old registers.old counts.old }
     ensures { ◌≡◌ {A = Outcome}
-        (record { reply = result.reply; target = result.target; buffers = record { array = array.exit.now; registers = registers.new; counts = counts.new } })
-        (accepted t e params.now (record { array = array.entry.now; registers = registers.old; counts = counts.old }) flags.now) }
+        (record { reply = result.reply; target = result.target; buffers = record { array = array.new; registers = registers.new; counts = counts.new } })
+        (accepted t e params.now (record { array = array.old; registers = registers.old; counts = counts.old }) flags.now) }
 {
     let g = t.geometry;
     let d = t.decoder;
@@ -77,8 +77,8 @@ pub fn steady(
     requires t_value { record_sound t ≡ true }
     requires sizes { Sizes t.geometry array.old registers.old counts.old }
     ensures { ◌≡◌ {A = Outcome}
-        (record { reply = result.reply; target = result.target; buffers = record { array = array.exit.now; registers = registers.new; counts = counts.new } })
-        (steady t e params.now (record { array = array.entry.now; registers = registers.old; counts = counts.old }) flags.now) }
+        (record { reply = result.reply; target = result.target; buffers = record { array = array.new; registers = registers.new; counts = counts.new } })
+        (steady t e params.now (record { array = array.old; registers = registers.old; counts = counts.old }) flags.now) }
 {
     let v = decide(t, e);
     match v {
@@ -104,8 +104,8 @@ pub fn step(
     flags: &[u8],
 ) -> Stepped
     ensures { ◌≡◌ {A = Outcome}
-        (record { reply = result.reply; target = result.target; buffers = record { array = array.exit.now; registers = registers.new; counts = counts.new } })
-        (step_of t e params.now (record { array = array.entry.now; registers = registers.old; counts = counts.old }) flags.now) }
+        (record { reply = result.reply; target = result.target; buffers = record { array = array.new; registers = registers.new; counts = counts.new } })
+        (step_of t e params.now (record { array = array.old; registers = registers.old; counts = counts.old }) flags.now) }
 {
     if !usable(
         t,

@@ -66,8 +66,8 @@ fn take_in(
     requires page_in_bounds { base + page ≤ length registers.old }
     requires k_bound { (at + k ≤ page) × (2 * (i + k) ≤ length records.now) × (length records.now ≤ length room.old) }
     ensures { ◌≡◌ {A = Taking}
-        (record { registers = registers.exit.now; room = room.new })
-        (taken_in page base records.now i at k (record { registers = registers.entry.now; room = room.old })) }
+        (record { registers = registers.new; room = room.new })
+        (taken_in page base records.now i at k (record { registers = registers.old; room = room.old })) }
 {
     let mut j: usize = 0;
     while j < k {

@@ -62,8 +62,8 @@ fn step_known(
 ) -> Stepped
     requires { ok ≡ usable t (length params.now) (length array.old) (length registers.old) (length counts.old) (length flags.now) }
     ensures { ◌≡◌ {A = Outcome}
-        (record { reply = result.reply; target = result.target; buffers = record { array = array.exit.now; registers = registers.new; counts = counts.new } })
-        (step_of t e params.now (record { array = array.entry.now; registers = registers.old; counts = counts.old }) flags.now) }
+        (record { reply = result.reply; target = result.target; buffers = record { array = array.new; registers = registers.new; counts = counts.new } })
+        (step_of t e params.now (record { array = array.old; registers = registers.old; counts = counts.old }) flags.now) }
 {
     if !ok {
         return Stepped {
@@ -120,9 +120,9 @@ fn turn(
     requires ok_value { ok ≡ usable t (length params.now) (length array.old) (length registers.old) (length counts.old) (length flags.now) }
     requires i_in_bounds { (2 * i + 1 < length records.now) × (2 * i + 1 < length room.old) }
     ensures { ◌≡◌ {A = Running}
-        (record { target = result; done = i + 1; buffers = record { array = array.exit.now; registers = registers.new; counts = counts.new }; room = room.new })
+        (record { target = result; done = i + 1; buffers = record { array = array.new; registers = registers.new; counts = counts.new }; room = room.new })
         (one_more params.now flags.now
-        (record { target = t; done = i; buffers = record { array = array.entry.now; registers = registers.old; counts = counts.old }; room = room.old })
+        (record { target = t; done = i; buffers = record { array = array.old; registers = registers.old; counts = counts.old }; room = room.old })
         (record { kind = get_or records.now (2 * i) 0; value = get_or records.now (2 * i + 1) 0 })) }
 {
     let e = Event {
@@ -151,9 +151,9 @@ fn run_records(
     requires ok_value { ok ≡ usable t (length params.now) (length array.old) (length registers.old) (length counts.old) (length flags.now) }
     requires records_in_bounds { length records.now ≤ length room.old }
     ensures { ◌≡◌ {A = Running}
-        (record { target = result; done = length records.now / 2; buffers = record { array = array.exit.now; registers = registers.new; counts = counts.new }; room = room.new })
+        (record { target = result; done = length records.now / 2; buffers = record { array = array.new; registers = registers.new; counts = counts.new }; room = room.new })
         (ran_all params.now flags.now (events_of records.now)
-        (start t (record { array = array.entry.now; registers = registers.old; counts = counts.old }) room.old)) }
+        (start t (record { array = array.old; registers = registers.old; counts = counts.old }) room.old)) }
 {
     let n = records.len() / 2;
     let mut at = t;
@@ -214,8 +214,8 @@ pub fn run(
     flags: &[u8],
 ) -> Ran
     ensures { ◌≡◌ {A = Traced}
-        (record { answer = result.answer; target = result.target; buffers = record { array = array.exit.now; registers = registers.new; counts = counts.new }; room = room.new })
-        (trace_of t records.now room.old params.now (record { array = array.entry.now; registers = registers.old; counts = counts.old }) flags.now) }
+        (record { answer = result.answer; target = result.target; buffers = record { array = array.new; registers = registers.new; counts = counts.new }; room = room.new })
+        (trace_of t records.now room.old params.now (record { array = array.old; registers = registers.old; counts = counts.old }) flags.now) }
 {
     let n = records.len();
     if too_short(room.len(), n) {

@@ -1,0 +1,11 @@
+-- `jobs::writing::put_data` meets its contract.
+use Prim.Native.Nat.{◌-◌}
+use lib.ListN.{length, length-set}
+use Rattle.jobs.proofs.Room.{Data, data-turn, data-end}
+use Rattle.jobs.proofs.writing.put_data.Given as goal
+
+abbrev pub invariant-loop-k : goal.invariant-loop-k
+invariant-loop-k l = Data l.initial.room l.at l.bytes l.room l.k
+
+abbrev pub decreases-loop-k : goal.decreases-loop-k
+decreases-loop-k l = length l.bytes - l.k

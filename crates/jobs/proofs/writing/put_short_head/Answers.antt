@@ -1,0 +1,22 @@
+-- `jobs::writing::put_short_head` meets its contract.
+use native.Mathlib.Omega.{arith}
+use lib.ListN.{length-set}
+use Rattle.jobs.proofs.writing.put_short_head.Goals as goal
+
+pub bounds-room-1 : goal.bounds-room-1
+bounds-room-1 c = simp length-set (omega arith)
+
+pub bounds-room-2 : goal.bounds-room-2
+bounds-room-2 c = simp length-set (omega arith)
+
+pub bounds-room-3 : goal.bounds-room-3
+bounds-room-3 c = simp length-set (omega arith)
+
+pub bounds-room-4 : goal.bounds-room-4
+bounds-room-4 c = simp length-set (omega arith)
+
+pub bounds-room-5 : goal.bounds-room-5
+bounds-room-5 c = simp length-set (omega arith)
+
+pub bounds-room-6 : goal.bounds-room-6
+bounds-room-6 c = simp length-set (omega arith)

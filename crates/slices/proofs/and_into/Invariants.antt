@@ -1,0 +1,12 @@
+-- `slices::and_into` meets its contract: a sweep towards the ANDed list.
+use Prim.Native.Nat.{ℕ, ◌-◌, ◌<◌}
+use lib.ListN.{length, get_or}
+use Rattle.slices.proofs.Sweep.{Sweep, sweep-none, sweep-more, sweep-end, sweep-read}
+use Rattle.slices.specs.Cells.{and_bytes}
+use Rattle.slices.proofs.and_into.Given as goal
+
+abbrev pub invariant-loop-i : goal.invariant-loop-i
+invariant-loop-i l = Sweep (and_bytes l.initial.dst l.src) l.initial.dst l.dst l.i
+
+abbrev pub decreases-loop-i : goal.decreases-loop-i
+decreases-loop-i l = length l.initial.dst - l.i

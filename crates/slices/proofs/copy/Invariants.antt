@@ -1,0 +1,11 @@
+-- `slices::copy` meets its contract: a sweep towards `src`.
+use Prim.Native.Nat.{◌-◌}
+use lib.ListN.{length}
+use Rattle.slices.proofs.Sweep.{Sweep, sweep-none, sweep-more, sweep-end}
+use Rattle.slices.proofs.copy.Given as goal
+
+abbrev pub invariant-loop-i : goal.invariant-loop-i
+invariant-loop-i l = Sweep l.src l.initial.dst l.dst l.i
+
+abbrev pub decreases-loop-i : goal.decreases-loop-i
+decreases-loop-i l = length l.initial.dst - l.i

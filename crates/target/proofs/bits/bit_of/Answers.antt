@@ -1,0 +1,19 @@
+-- `target::bits::bit_of` meets its contract.
+use mathlib.Core.Path.{refl}
+use Prim.Native.Nat.{◌<◌, ◌^◌}
+use native.Mathlib.Nat.{div-eq_of_lt, lt_of_lt_of_le}
+use lib.Pow.{pow_mono}
+use Rattle.target.specs.Words.{bit_of}
+use Rattle.target.proofs.bits.bit_of.Goals as goal
+
+pub returns-then-k-lt16 : goal.returns-then-k-lt16
+unfolding bit_of
+returns-then-k-lt16 c = refl
+
+pub returns-else-k-lt16 : goal.returns-else-k-lt16
+unfolding bit_of
+returns-else-k-lt16 c =
+    let x = c.args.x in
+    let k = c.args.k in
+    let small : x < 2 ^ k = lt_of_lt_of_le c.ranges.x.fits (pow_mono c.if-k-lt16.false) in
+    rw (div-eq_of_lt small)

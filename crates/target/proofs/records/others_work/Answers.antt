@@ -1,0 +1,11 @@
+-- `target::records::others_work` meets its contract.
+use Rattle.target.proofs.records.others_work.Goals as goal
+
+pub returns : goal.returns
+returns c =
+    rw (
+      c.works-4.ensures,
+      c.works-3.ensures,
+      c.works-2.ensures,
+      c.works.ensures,
+    )
