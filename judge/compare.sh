@@ -4,8 +4,8 @@
 #                               which the gate holds the proved program to
 #   compare.sh --stored         says whether that file is what the C program writes
 #   compare.sh --check [SEED [COUNT]]
-#                               runs both, the proved one as ../target/bin/test_judge ('rt check
-#                               test_judge' builds it), and says where their lines first differ: the
+#                               runs both, the proved one as ../target/bin/test_judge (built by
+#                               tools/build-program test_judge), and says where their lines first differ: the
 #                               line, and in it the trace, the record and the two replies. Without
 #                               SEED the stored file is compared too
 # -x ERROR, before SEED, switches a builder's error of errors.sh on in the C model, to see that
@@ -39,7 +39,7 @@ if [ "${1:-}" = -x ]; then
     error=$2
     shift 2
 fi
-[ -x "$proved" ] || { echo "compare: no $proved; run 'rt check test_judge' first" >&2; exit 2; }
+[ -x "$proved" ] || { echo "compare: no $proved; run tools/build-program test_judge first" >&2; exit 2; }
 
 # Both files, and the first line in which they differ.
 first_difference() {

@@ -1,7 +1,7 @@
 #!/usr/bin/env python3
 """What the prover and its compiler have of the exported record and functions, as a C header for tests/c/layout.c.
 
-    python3 tools/host_layout.py nib_ target/rlib/host.rlib host.ll [RLIB MODULE..] > layout.h
+    python3 tools/host_layout.py nib_ crates/host/out/rlib/host.rlib host.ll [RLIB MODULE..] > layout.h
 
 The first library has the record; the functions of all are told. Three sources that `rt` wrote, and they must agree:
 
@@ -40,7 +40,7 @@ def interface(rlib):
 def functions(text, prefix):
     """The exported functions: name -> (parameters as (name, type), result)."""
     found = {}
-    pattern = r'# \[ no_mangle \] pub extern "C" fn (%s\w+) \(([^()]*)\)(?: -> (\w+))?' % re.escape(prefix)
+    pattern = r'# \[ unsafe \( no_mangle \) \] pub extern "C" fn (%s\w+) \(([^()]*)\)(?: -> (\w+))?' % re.escape(prefix)
     for name, inside, result in re.findall(pattern, text):
         parameters = [part.strip().split(' : ', 1) for part in inside.split(' , ') if part.strip(' ,')]
         found[name] = ([(n, t.strip(' ,')) for n, t in parameters], result)
@@ -64,7 +64,7 @@ def record_name(exported):
 
 def fields_of(text, name):
     """The record's fields as (name, element type, how many or None)."""
-    found = re.search(r'# \[ repr \( C \) \] pub struct %s \{ (.*?) \}' % name, text)
+    found = re.search(r'# \[ repr \( C \) \] (?:# \[ [^]]* \] )*pub struct %s \{ (.*?) \}' % name, text)
     if not found:
         fail('no #[repr(C)] struct ' + name)
     fields = []

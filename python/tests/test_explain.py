@@ -123,7 +123,7 @@ class Nib(unittest.TestCase):
 
     def setUp(self) -> None:
         if not NIB.exists():
-            raise AssertionError("there is no %s: `rt check nib` builds it" % NIB)
+            raise AssertionError("there is no %s: `tools/build-program nib` builds it" % NIB)
         folder = tempfile.TemporaryDirectory()
         self.addCleanup(folder.cleanup)
         self.folder = Path(folder.name)

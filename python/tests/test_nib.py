@@ -52,13 +52,13 @@ class Nib(unittest.TestCase):
     @classmethod
     def setUpClass(cls) -> None:
         if not NIB.exists():
-            raise AssertionError("there is no %s: `rt check nib` builds it" % NIB)
+            raise AssertionError("there is no %s: `tools/build-program nib` builds it" % NIB)
         cls.tools = tempfile.TemporaryDirectory()
         cls.shim = str(Path(cls.tools.name) / "fail.so")
         subprocess.run([str(ROOT / "tests" / "c" / "build-fail"), cls.shim], check=True)
         # nib as one word, for shells too: on Arm the kit's emulator runs it, and rt is asked once where that is
         guide = subprocess.run(["rt", "doc"], check=True, stdout=subprocess.PIPE, text=True).stdout.strip()
-        kit = os.environ.get("RATTLE_HOME") or Path(guide).parent.parent
+        kit = os.environ.get("RATTLE_HOME") or Path(guide).parent
         cls.program = Path(cls.tools.name) / "nib"
         cls.program.write_text('#!/bin/sh\nRATTLE_HOME="%s" exec "%s" "%s" "$@"\n' % (kit, RUN, NIB), encoding="utf-8")
         cls.program.chmod(0o755)
@@ -734,7 +734,7 @@ class Wrapped(Nib):
         shutil.copy(ROOT / "tools" / "nib", self.folder / "tools" / "nib")
         status, said, error = self.wrapped(self.folder / "tools" / "nib", "help")
         self.assertEqual((status, said), (1, ""))
-        self.assertIn("'rt check nib' proves and builds it", error)
+        self.assertIn("'tools/build-program nib' proves and builds it", error)
 
 
 if __name__ == "__main__":

@@ -31,9 +31,10 @@ class Readme(unittest.TestCase):
         with tempfile.TemporaryDirectory() as folder:
             # in a copy of the repository, for pip leaves files there; what is built is shared
             copy = Path(folder) / "copy"
-            left_out = shutil.ignore_patterns("target", ".git", "__pycache__", "build", "*.egg-info")
+            left_out = shutil.ignore_patterns("target", "out", ".git", "__pycache__", "build", "*.egg-info")
             shutil.copytree(ROOT, copy, symlinks=True, ignore=left_out)
-            shutil.copytree(ROOT / "crates" / "target", copy / "crates" / "target", dirs_exist_ok=True)
+            shutil.copytree(ROOT / "crates" / "target", copy / "crates" / "target", dirs_exist_ok=True,
+                            ignore=shutil.ignore_patterns("out"))
             (copy / "target").symlink_to(ROOT / "target")
             script = Path(folder) / "readme.sh"
             script.write_text("set -eu\n" + "\n".join(boxes("sh")), encoding="utf-8")

@@ -55,7 +55,7 @@ class BuildHost(unittest.TestCase):
             first = running.stdout.readline()
             rest = running.stdout.read()
         self.assertEqual(running.returncode, 0)
-        self.assertIn("build-host: proving host nib_speech", first)
+        self.assertIn("build-host: proving nib_c", first)
         self.assertIn("up to date", rest)
 
 

@@ -323,15 +323,15 @@ pub record Between (at p n : ℕ) : Type 0 where
   pub low : at ≤ p
   pub high : p ≤ n
 
-abbrev bounded : ℕ → ℕ → Reached → Type 0
-bounded at n (reached.Stops p) = Unit
-bounded at n (reached.Whole p) = Between at p n
+abbrev Bounded : ℕ → ℕ → Reached → Type 0
+Bounded at n (reached.Stops p) = Unit
+Bounded at n (reached.Whole p) = Between at p n
 
-widened : (at n : ℕ) (r : Reached) → bounded (at + 1) n r → bounded at n r
+widened : (at n : ℕ) (r : Reached) → Bounded (at + 1) n r → Bounded at n r
 widened at n (reached.Stops p) b = tt
 widened at n (reached.Whole p) b = record { low = omega (arith, b.low); high = b.high }
 
-widened-by : (at m n : ℕ) (r : Reached) → bounded (at + m) n r → bounded at n r
+widened-by : (at m n : ℕ) (r : Reached) → Bounded (at + m) n r → Bounded at n r
 widened-by at m n (reached.Stops p) b = tt
 widened-by at m n (reached.Whole p) b = record { low = omega (arith, b.low); high = b.high }
 
@@ -341,18 +341,18 @@ two-left t at h = omega (arith, length-drop (2 * at) t)
 many-left : (kind : ℕ) (t : List ℕ) (at : ℕ) → at ≤ length t / 2 → at + many_of kind (drop (2 * at) t) ≤ length t / 2
 many-left kind t at h = omega (arith, length-drop (2 * at) t, run-within (length (drop (2 * at) t)) kind (drop (2 * at) t))
 
-through-bounds : (t : List ℕ) (is : List Item) (at : ℕ) → at ≤ length t / 2 → bounded at (length t / 2) (through is (drop (2 * at) t) at)
+through-bounds : (t : List ℕ) (is : List Item) (at : ℕ) → at ≤ length t / 2 → Bounded at (length t / 2) (through is (drop (2 * at) t) at)
 through-bounds t [] at h = rw (through-none (drop (2 * at) t) at) (record { low = omega arith; high = h })
 through-bounds t (address ∷ is) at h = rw (through-address is (drop (2 * at) t) at) (by-test (is_kind 1 (drop (2 * at) t)) refl (λ low. through-bounds t is (at + 1) low)) where
-  by-test : (b : Bool) → is_kind 1 (drop (2 * at) t) ≡ b → (at + 1 ≤ length t / 2 → bounded (at + 1) (length t / 2) (through is (drop (2 * (at + 1)) t) (at + 1)))
-      → bounded at (length t / 2) (pick b (through is (drop 2 (drop (2 * at) t)) (at + 1)) (reached.Stops at))
+  by-test : (b : Bool) → is_kind 1 (drop (2 * at) t) ≡ b → (at + 1 ≤ length t / 2 → Bounded (at + 1) (length t / 2) (through is (drop (2 * (at + 1)) t) (at + 1)))
+      → Bounded at (length t / 2) (pick b (through is (drop 2 (drop (2 * at) t)) (at + 1)) (reached.Stops at))
   by-test true e ih =
       widened at (length t / 2) (through is (drop 2 (drop (2 * at) t)) (at + 1))
       (rw (next t at) (ih (two-left t at (two-of-kind 1 (drop (2 * at) t) e))))
   by-test false e ih = tt
 through-bounds t (command b ∷ is) at h = rw (through-command b is (drop (2 * at) t) at) (by-test (is_command b (drop (2 * at) t)) refl (λ low. through-bounds t is (at + 1) low)) where
-  by-test : (c : Bool) → is_command b (drop (2 * at) t) ≡ c → (at + 1 ≤ length t / 2 → bounded (at + 1) (length t / 2) (through is (drop (2 * (at + 1)) t) (at + 1)))
-      → bounded at (length t / 2) (pick c (through is (drop 2 (drop (2 * at) t)) (at + 1)) (reached.Stops at))
+  by-test : (c : Bool) → is_command b (drop (2 * at) t) ≡ c → (at + 1 ≤ length t / 2 → Bounded (at + 1) (length t / 2) (through is (drop (2 * (at + 1)) t) (at + 1)))
+      → Bounded at (length t / 2) (pick c (through is (drop 2 (drop (2 * at) t)) (at + 1)) (reached.Stops at))
   by-test true e ih =
       widened at (length t / 2) (through is (drop 2 (drop (2 * at) t)) (at + 1))
       (rw (next t at) (ih (two-left t at (two-of-command b (drop (2 * at) t) e))))
@@ -365,12 +365,12 @@ through-bounds t (data_outs ∷ is) at h =
     (widened-by at (many_of 3 (drop (2 * at) t)) (length t / 2) (through is (drop (2 * (at + many_of 3 (drop (2 * at) t))) t) (at + many_of 3 (drop (2 * at) t))) (through-bounds t is (at + many_of 3 (drop (2 * at) t)) (many-left 3 t at h)))
 
 -- a whole job ends after its place, and within the trace
-abbrev ending : ℕ → ℕ → Found → Type 0
-ending at n found.End = Unit
-ending at n (found.Misfit p) = Unit
-ending at n (found.Whole j d m p) = Between (at + 1) p n
+abbrev Ending : ℕ → ℕ → Found → Type 0
+Ending at n found.End = Unit
+Ending at n (found.Misfit p) = Unit
+Ending at n (found.Whole j d m p) = Between (at + 1) p n
 
-ends_found : {f : First} → Begins f → (ts : List ℕ) (at n : ℕ) (r : Reached) → bounded (at + 1) n r → ending at n (found_of f ts at r)
+ends_found : {f : First} → Begins f → (ts : List ℕ) (at n : ℕ) (r : Reached) → Bounded (at + 1) n r → Ending at n (found_of f ts at r)
 ends_found read ts at n (reached.Stops p) b = tt
 ends_found read ts at n (reached.Whole p) b = b
 ends_found read_out ts at n (reached.Stops p) b = tt
@@ -383,13 +383,13 @@ ends_found status ts at n (reached.Stops p) b = tt
 ends_found status ts at n (reached.Whole p) b = b
 
 module _ (t : List ℕ) (at k v : ℕ) (ts : List ℕ) (here : drop (2 * at) t ≡ k ∷ (v ∷ ts)) where
-  ends : {f : First} → Begins f → ending at (length t / 2) (found_of f (k ∷ (v ∷ ts)) at (through (items f) ts (at + 1)))
+  ends : {f : First} → Begins f → Ending at (length t / 2) (found_of f (k ∷ (v ∷ ts)) at (through (items f) ts (at + 1)))
   ends {f} b =
       let long : 2 ≤ length (drop (2 * at) t) = rw (here) (omega arith) in
-      let e : bounded (at + 1) (length t / 2) (through (items f) (drop (2 * (at + 1)) t) (at + 1)) = through-bounds t (items f) (at + 1) (two-left t at long) in
+      let e : Bounded (at + 1) (length t / 2) (through (items f) (drop (2 * (at + 1)) t) (at + 1)) = through-bounds t (items f) (at + 1) (two-left t at long) in
       ends_found b (k ∷ (v ∷ ts)) at (length t / 2) (through (items f) ts (at + 1)) (rw (rest t at k v ts here) at e)
 
-  ends-first : (f : First) → ending at (length t / 2) (begun_of f (k ∷ (v ∷ ts)) at)
+  ends-first : (f : First) → Ending at (length t / 2) (begun_of f (k ∷ (v ∷ ts)) at)
   ends-first first.Nothing = tt
   ends-first first.Read = ends read
   ends-first first.ReadOut = ends read_out
@@ -397,12 +397,12 @@ module _ (t : List ℕ) (at k v : ℕ) (ts : List ℕ) (here : drop (2 * at) t �
   ends-first first.Erase = ends erase
   ends-first first.Status = ends status
 
-ends-from : (t : List ℕ) (at : ℕ) (ts : List ℕ) → drop (2 * at) t ≡ ts → ending at (length t / 2) (job_from ts at)
+ends-from : (t : List ℕ) (at : ℕ) (ts : List ℕ) → drop (2 * at) t ≡ ts → Ending at (length t / 2) (job_from ts at)
 ends-from t at [] e = tt
 ends-from t at (k ∷ []) e = tt
 ends-from t at (k ∷ (v ∷ ts)) e = ends-first t at k v ts e (beginning k v)
 
-job-ends : (t : List ℕ) (at : ℕ) → ending at (length t / 2) (job_at t at)
+job-ends : (t : List ℕ) (at : ℕ) → Ending at (length t / 2) (job_at t at)
 unfolding job_at
 job-ends t at = ends-from t at (drop (2 * at) t) refl
 

@@ -27,36 +27,36 @@ use Rattle.thm_jobs.specs.Round.{AllBytes, values_of, data_at, WrittenAgain, Rea
 use Rattle.thm_jobs.proofs.Shapes.{both_of, outs-were, data-were, given-then}
 
 -- which bytes begin a job
-abbrev opening : First → ℕ → Type 0
-opening first.Nothing v = Unit
-opening first.Read v = v ≡ 0x00
-opening first.ReadOut v = v ≡ 0x06
-opening first.Program v = v ≡ 0x80
-opening first.Erase v = v ≡ 0x60
-opening first.Status v = v ≡ 0x78
+abbrev Opening : First → ℕ → Type 0
+Opening first.Nothing v = Unit
+Opening first.Read v = v ≡ 0x00
+Opening first.ReadOut v = v ≡ 0x06
+Opening first.Program v = v ≡ 0x80
+Opening first.Erase v = v ≡ 0x60
+Opening first.Status v = v ≡ 0x78
 
 by-pick : (P : First → Type 0) (b : Bool) (x y : First) → (b ≡ true → P x) → (b ≡ false → P y) → P (pick b x y)
 by-pick P true x y f g = f refl
 by-pick P false x y f g = g refl
 
-opened : (v : ℕ) → opening (first_of v) v
+opened : (v : ℕ) → Opening (first_of v) v
 unfolding first_of
 opened v =
-    by-pick (λ (f : First). opening f v) (eqb v 0x00) _ _ (λ e. eqb-true v 0x00 e)
-    (λ _. by-pick (λ (f : First). opening f v) (eqb v 0x06) _ _ (λ e. eqb-true v 0x06 e)
-    (λ _. by-pick (λ (f : First). opening f v) (eqb v 0x80) _ _ (λ e. eqb-true v 0x80 e)
-    (λ _. by-pick (λ (f : First). opening f v) (eqb v 0x60) _ _ (λ e. eqb-true v 0x60 e)
-    (λ _. by-pick (λ (f : First). opening f v) (eqb v 0x78) _ _ (λ e. eqb-true v 0x78 e) (λ _. tt)))))
+    by-pick (λ (f : First). Opening f v) (eqb v 0x00) _ _ (λ e. eqb-true v 0x00 e)
+    (λ _. by-pick (λ (f : First). Opening f v) (eqb v 0x06) _ _ (λ e. eqb-true v 0x06 e)
+    (λ _. by-pick (λ (f : First). Opening f v) (eqb v 0x80) _ _ (λ e. eqb-true v 0x80 e)
+    (λ _. by-pick (λ (f : First). Opening f v) (eqb v 0x60) _ _ (λ e. eqb-true v 0x60 e)
+    (λ _. by-pick (λ (f : First). Opening f v) (eqb v 0x78) _ _ (λ e. eqb-true v 0x78 e) (λ _. tt)))))
 
-abbrev starting : First → ℕ → ℕ → Type 0
-starting first.Nothing k v = Unit
-starting first.Read k v = (k ≡ 0) × (v ≡ 0x00)
-starting first.ReadOut k v = (k ≡ 0) × (v ≡ 0x06)
-starting first.Program k v = (k ≡ 0) × (v ≡ 0x80)
-starting first.Erase k v = (k ≡ 0) × (v ≡ 0x60)
-starting first.Status k v = (k ≡ 0) × (v ≡ 0x78)
+abbrev Starting : First → ℕ → ℕ → Type 0
+Starting first.Nothing k v = Unit
+Starting first.Read k v = (k ≡ 0) × (v ≡ 0x00)
+Starting first.ReadOut k v = (k ≡ 0) × (v ≡ 0x06)
+Starting first.Program k v = (k ≡ 0) × (v ≡ 0x80)
+Starting first.Erase k v = (k ≡ 0) × (v ≡ 0x60)
+Starting first.Status k v = (k ≡ 0) × (v ≡ 0x78)
 
-joined : (f : First) (k v : ℕ) → k ≡ 0 → opening f v → starting f k v
+joined : (f : First) (k v : ℕ) → k ≡ 0 → Opening f v → Starting f k v
 joined first.Nothing k v e o = tt
 joined first.Read k v e o = (e, o)
 joined first.ReadOut k v e o = (e, o)
@@ -64,10 +64,10 @@ joined first.Program k v e o = (e, o)
 joined first.Erase k v e o = (e, o)
 joined first.Status k v e o = (e, o)
 
-started : (k v : ℕ) → starting (beginning k v) k v
+started : (k v : ℕ) → Starting (beginning k v) k v
 unfolding beginning
 started k v =
-    by-pick (λ (f : First). starting f k v) (eqb k 0) (first_of v) first.Nothing
+    by-pick (λ (f : First). Starting f k v) (eqb k 0) (first_of v) first.Nothing
     (λ e. joined (first_of v) k v (eqb-true k 0 e) (opened v))
     (λ _. tt)
 
@@ -291,10 +291,10 @@ again trace at j bytes after p narrow same size =
     ∙ drop-append_seam (records_of j bytes) after in
     record { narrow = narrow; same = rw (rest) same; size = size }
 
-abbrev so : List ℕ → ℕ → Found → Type 0
-so trace at found.End = Unit
-so trace at (found.Misfit p) = Unit
-so trace at (found.Whole j d n p) = WrittenAgain trace at j (data_at trace d n) p
+abbrev So : List ℕ → ℕ → Found → Type 0
+So trace at found.End = Unit
+So trace at (found.Misfit p) = Unit
+So trace at (found.Whole j d n p) = WrittenAgain trace at j (data_at trace d n) p
 
 data_is : (trace : List ℕ) (d m n : ℕ) (rest : List ℕ) → m ≡ n → drop (2 * d) trace ≡ rest → data_at trace d m ≡ values_of n rest
 unfolding data_at
@@ -305,7 +305,7 @@ values-size zero ts = refl
 values-size (suc n) ts = ap suc (values-size n (drop 2 ts))
 
 module _ (trace : List ℕ) (at : ℕ) (ts : List ℕ) (p : ℕ) where
-  read_again : drop (2 * at) trace ≡ 0 ∷ (0x00 ∷ ts) → ((i : ℕ) → get_or (0 ∷ (0x00 ∷ ts)) i 0 < 256) → through (items first.Read) ts (at + 1) ≡ reached.Whole p → so trace at (grouped_of first.Read (0 ∷ (0x00 ∷ ts)) at p)
+  read_again : drop (2 * at) trace ≡ 0 ∷ (0x00 ∷ ts) → ((i : ℕ) → get_or (0 ∷ (0x00 ∷ ts)) i 0 < 256) → through (items first.Read) ts (at + 1) ≡ reached.Whole p → So trace at (grouped_of first.Read (0 ∷ (0x00 ∷ ts)) at p)
   unfolding too_wide
   read_again here bound e =
       let is : List Item = command 0x30 ∷ [] in
@@ -320,7 +320,7 @@ module _ (trace : List ℕ) (at : ℕ) (ts : List ℕ) (p : ℕ) where
       ∙ sym (rw (column-is 0x00 ts bound is (at + 1) p f, row_is 0x00 ts bound is (at + 1) p f)) in
       again trace at _ (data_at trace 0 0) k.rest p (narrow-long 0x00 ts bound is (at + 1) p f) all (omega (arith, read-size (column_at (0 ∷ (0x00 ∷ ts))) (row_at (0 ∷ (0x00 ∷ ts)) 3) (data_at trace 0 0)))
 
-  read-out-again : drop (2 * at) trace ≡ 0 ∷ (0x06 ∷ ts) → ((i : ℕ) → get_or (0 ∷ (0x06 ∷ ts)) i 0 < 256) → through (items first.ReadOut) ts (at + 1) ≡ reached.Whole p → so trace at (grouped_of first.ReadOut (0 ∷ (0x06 ∷ ts)) at p)
+  read-out-again : drop (2 * at) trace ≡ 0 ∷ (0x06 ∷ ts) → ((i : ℕ) → get_or (0 ∷ (0x06 ∷ ts)) i 0 < 256) → through (items first.ReadOut) ts (at + 1) ≡ reached.Whole p → So trace at (grouped_of first.ReadOut (0 ∷ (0x06 ∷ ts)) at p)
   unfolding too_wide
   read-out-again here bound e =
       let is : List Item = command 0xe0 ∷ (data_outs ∷ []) in
@@ -339,7 +339,7 @@ module _ (trace : List ℕ) (at : ℕ) (ts : List ℕ) (p : ℕ) where
       ∙ sym (rw (column-is 0x06 ts bound is (at + 1) p f, row_is 0x06 ts bound is (at + 1) p f, count)) in
       again trace at _ (data_at trace 0 0) after p (narrow-long 0x06 ts bound is (at + 1) p f) all (omega (arith, read-out-size (column_at (0 ∷ (0x06 ∷ ts))) (row_at (0 ∷ (0x06 ∷ ts)) 3) (p - (at + 7)) (data_at trace 0 0)))
 
-  program-again : drop (2 * at) trace ≡ 0 ∷ (0x80 ∷ ts) → ((i : ℕ) → get_or (0 ∷ (0x80 ∷ ts)) i 0 < 256) → through (items first.Program) ts (at + 1) ≡ reached.Whole p → so trace at (grouped_of first.Program (0 ∷ (0x80 ∷ ts)) at p)
+  program-again : drop (2 * at) trace ≡ 0 ∷ (0x80 ∷ ts) → ((i : ℕ) → get_or (0 ∷ (0x80 ∷ ts)) i 0 < 256) → through (items first.Program) ts (at + 1) ≡ reached.Whole p → So trace at (grouped_of first.Program (0 ∷ (0x80 ∷ ts)) at p)
   unfolding too_wide
   program-again here bound e =
       let is : List Item = data_ins ∷ (command 0x10 ∷ []) in
@@ -363,7 +363,7 @@ module _ (trace : List ℕ) (at : ℕ) (ts : List ℕ) (p : ℕ) where
       let size : length (data_at trace (at + 6) (p - (at + 7))) ≡ n = ap length given ∙ values-size n f.rest in
       again trace at _ (data_at trace (at + 6) (p - (at + 7))) k.rest p (narrow-long 0x80 ts bound is (at + 1) p f) all (omega (arith, program-size (column_at (0 ∷ (0x80 ∷ ts))) (row_at (0 ∷ (0x80 ∷ ts)) 3) (data_at trace (at + 6) (p - (at + 7)))))
 
-  erase-again : drop (2 * at) trace ≡ 0 ∷ (0x60 ∷ ts) → ((i : ℕ) → get_or (0 ∷ (0x60 ∷ ts)) i 0 < 256) → through (items first.Erase) ts (at + 1) ≡ reached.Whole p → so trace at (grouped_of first.Erase (0 ∷ (0x60 ∷ ts)) at p)
+  erase-again : drop (2 * at) trace ≡ 0 ∷ (0x60 ∷ ts) → ((i : ℕ) → get_or (0 ∷ (0x60 ∷ ts)) i 0 < 256) → through (items first.Erase) ts (at + 1) ≡ reached.Whole p → So trace at (grouped_of first.Erase (0 ∷ (0x60 ∷ ts)) at p)
   unfolding too_wide
   erase-again here bound e =
       let is : List Item = command 0xd0 ∷ [] in
@@ -379,7 +379,7 @@ module _ (trace : List ℕ) (at : ℕ) (ts : List ℕ) (p : ℕ) where
       ∙ sym (rw (short-row-is 0x60 ts bound is (at + 1) p f)) in
       again trace at _ (data_at trace 0 0) k.rest p (narrow_short 0x60 ts bound is (at + 1) p f) all (omega (arith, erase-size (row_at (0 ∷ (0x60 ∷ ts)) 1) (data_at trace 0 0)))
 
-  status-again : drop (2 * at) trace ≡ 0 ∷ (0x78 ∷ ts) → ((i : ℕ) → get_or (0 ∷ (0x78 ∷ ts)) i 0 < 256) → through (items first.Status) ts (at + 1) ≡ reached.Whole p → so trace at (grouped_of first.Status (0 ∷ (0x78 ∷ ts)) at p)
+  status-again : drop (2 * at) trace ≡ 0 ∷ (0x78 ∷ ts) → ((i : ℕ) → get_or (0 ∷ (0x78 ∷ ts)) i 0 < 256) → through (items first.Status) ts (at + 1) ≡ reached.Whole p → So trace at (grouped_of first.Status (0 ∷ (0x78 ∷ ts)) at p)
   unfolding too_wide
   status-again here bound e =
       let is : List Item = data_outs ∷ [] in
@@ -400,12 +400,12 @@ module _ (trace : List ℕ) (at : ℕ) (ts : List ℕ) (p : ℕ) where
 -- from the record that begins a job
 module _ (trace : List ℕ) (at k v : ℕ) (ts : List ℕ) (here : drop (2 * at) trace ≡ k ∷ (v ∷ ts)) (bound : (i : ℕ) → get_or (k ∷ (v ∷ ts)) i 0 < 256) where
   by-reached : (f : First) (b : ℕ) → k ≡ 0 → v ≡ b
-      → ((p : ℕ) → drop (2 * at) trace ≡ 0 ∷ (b ∷ ts) → ((i : ℕ) → get_or (0 ∷ (b ∷ ts)) i 0 < 256) → through (items f) ts (at + 1) ≡ reached.Whole p → so trace at (grouped_of f (0 ∷ (b ∷ ts)) at p))
-      → (r : Reached) → through (items f) ts (at + 1) ≡ r → so trace at (found_of f (k ∷ (v ∷ ts)) at r)
+      → ((p : ℕ) → drop (2 * at) trace ≡ 0 ∷ (b ∷ ts) → ((i : ℕ) → get_or (0 ∷ (b ∷ ts)) i 0 < 256) → through (items f) ts (at + 1) ≡ reached.Whole p → So trace at (grouped_of f (0 ∷ (b ∷ ts)) at p))
+      → (r : Reached) → through (items f) ts (at + 1) ≡ r → So trace at (found_of f (k ∷ (v ∷ ts)) at r)
   by-reached f b ek ev made (reached.Stops p) e = tt
   by-reached f b ek ev made (reached.Whole p) e = rw (ek, ev) (made p (rw (ek, ev) at here) (rw (ek, ev) at bound) e)
 
-  by_first : (f : First) → starting f k v → so trace at (begun_of f (k ∷ (v ∷ ts)) at)
+  by_first : (f : First) → Starting f k v → So trace at (begun_of f (k ∷ (v ∷ ts)) at)
   by_first first.Nothing s = tt
   by_first first.Read s = by-reached first.Read 0x00 s.0 s.1 (λ p h b e. read_again trace at ts p h b e) _ refl
   by_first first.ReadOut s = by-reached first.ReadOut 0x06 s.0 s.1 (λ p h b e. read-out-again trace at ts p h b e) _ refl
@@ -413,7 +413,7 @@ module _ (trace : List ℕ) (at k v : ℕ) (ts : List ℕ) (here : drop (2 * at)
   by_first first.Erase s = by-reached first.Erase 0x60 s.0 s.1 (λ p h b e. erase-again trace at ts p h b e) _ refl
   by_first first.Status s = by-reached first.Status 0x78 s.0 s.1 (λ p h b e. status-again trace at ts p h b e) _ refl
 
-from : (trace : List ℕ) (at : ℕ) (ts : List ℕ) → drop (2 * at) trace ≡ ts → ((i : ℕ) → get_or ts i 0 < 256) → so trace at (job_from ts at)
+from : (trace : List ℕ) (at : ℕ) (ts : List ℕ) → drop (2 * at) trace ≡ ts → ((i : ℕ) → get_or ts i 0 < 256) → So trace at (job_from ts at)
 from trace at [] here bound = tt
 from trace at (k ∷ []) here bound = tt
 from trace at (k ∷ (v ∷ ts)) here bound = by_first trace at k v ts here bound (beginning k v) (started k v)
@@ -421,7 +421,7 @@ from trace at (k ∷ (v ∷ ts)) here bound = by_first trace at k v ts here boun
 bytes-from : (trace : List ℕ) (n : ℕ) → AllBytes trace → (i : ℕ) → get_or (drop n trace) i 0 < 256
 bytes-from trace n b i = rw (get_or-drop n trace i 0) (b.each (n + i))
 
-job-so : (trace : List ℕ) (at : ℕ) → AllBytes trace → so trace at (job_at trace at)
+job-so : (trace : List ℕ) (at : ℕ) → AllBytes trace → So trace at (job_at trace at)
 unfolding job_at
 job-so trace at b = from trace at (drop (2 * at) trace) refl (bytes-from trace (2 * at) b)
 

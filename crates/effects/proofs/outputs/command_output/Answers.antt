@@ -1,0 +1,20 @@
+-- `effects::outputs::command_output` meets its contract.
+use Rattle.effects.proofs.outputs.command_output.Goals as goal
+
+pub returns-then-is_open : goal.returns-then-is_open
+returns-then-is_open c =
+    rw (
+      ← c.is_open.ensures,
+      c.if-is_open.true,
+      c.ended_output.ensures,
+      c.ending.ensures,
+    )
+
+pub returns : goal.returns
+returns c =
+    rw (
+      ← c.is_open.ensures,
+      c.if-is_open.false,
+      c.first_output.ensures,
+      c.first_of.ensures,
+    )

@@ -1,0 +1,18 @@
+-- `nib_expect::words::event_words` meets its contract.
+use Rattle.nib_expect.specs.Words.{event_words}
+use Rattle.nib_words.proofs.Desks.{then, said, unsaid}
+use Rattle.nib_expect.proofs.words.event_words.Goals as goal
+
+pub returns-then-on : goal.returns-then-on
+unfolding event_words
+returns-then-on c =
+    said _ _ _ _ c.if-on.true (
+    then _ _ _ _ _ c.say-at.ensures
+    (then _ _ _ _ _ c.number-at.ensures
+    (then _ _ _ _ _ c.say-at-then-on.ensures
+    c.refused.ensures)))
+
+pub returns-else-on : goal.returns-else-on
+unfolding event_words
+returns-else-on c =
+    unsaid _ _ _ c.if-on.false

@@ -1,0 +1,8 @@
+-- `nib_speech::pieces::spaced` meets its contract.
+use Rattle.nib_words.proofs.Desks.{then}
+use Rattle.nib_speech.proofs.pieces.spaced.Goals as goal
+
+pub returns : goal.returns
+returns c =
+    then _ _ _ _ _ c.put-at.ensures
+    c.hex.ensures

@@ -1,0 +1,6 @@
+-- `test_judge_jobs::give_data` is safe and ends.
+use Prim.Native.Nat.{◌-◌}
+use Rattle.test_judge_jobs.proofs.give_data.Given as goal
+
+abbrev pub decreases-loop-i : goal.decreases-loop-i
+decreases-loop-i l = l.n - l.i

@@ -1,0 +1,15 @@
+-- `trace::turn` meets its contract.
+use Rattle.trace.specs.Run.{one_more}
+use Rattle.trace.proofs.turn.Goals as goal
+
+pub put_reply-requires : goal.put_reply-requires
+put_reply-requires c = c.requires.i_in_bounds.1
+
+pub returns : goal.returns
+unfolding one_more
+returns c =
+    rw (
+      c.outputs_anew.ensures,
+      c.put_reply.ensures,
+      ← c.step_known-s.ensures,
+    )
