@@ -4,7 +4,7 @@
 use mathlib.Core.Path.{◌≡◌, refl, sym, ◌∙◌}
 use mathlib.Core.Bool.{Bool, true, false, ◌&&◌, ◌||◌, not, false≢true}
 use mathlib.Core.List.{List, [], ◌∷◌, ◌++◌}
-use Prim.Native.Nat.{ℕ, zero, suc}
+use Prim.Native.Nat.{ℕ, zero, suc, ◌+◌}
 use lib.ListN.{replicate}
 use lib.Dec.{eqb}
 use borrow.Author.Tests.{not-true}
@@ -184,7 +184,8 @@ module _ (g : Geometry) where
       → Course g (lun_of g k.row) (closed_by last ps) (Filling k) o
   unfolding Course CycleOf EndedOf GivenOf TakerOf sequence_after output_after second_of second_row first_of row_of
   pieces-course k last row h [] o = last-course k last o row h
-  pieces-course k last row h (byte v ∷ ps) o = (refl, λ _. pieces-course _ last row h ps o)
+  pieces-course k last row h (byte v ∷ ps) o =
+      (refl, λ _. pieces-course (record { first = k.first; row = k.row; at = record { 0 = k.at.0 + 1 } }) last row h ps o)
   pieces-course k last row h (move b ∷ ps) o =
       ((refl, (row, refl)), λ _. (tt, λ _. (refl, λ _. pieces-course _ last row h ps output.Nothing)))
 
