@@ -1,12 +1,8 @@
 -- `target::address::bits_below` meets its contract.
 use mathlib.Core.Path.{sym}
 use native.Mathlib.Nat.{mod-eq_of_lt}
-use lib.Pow.{pow_pos}
 use Rattle.target.proofs.Widths.{past-64, one_shifted}
 use Rattle.target.proofs.address.bits_below.Goals as goal
-
--- left: rem-result : tie.Need-nonzero-rem-result
--- left: rem-result c = rw (one_shifted _ c.if1.true) (pow_pos _)
 
 pub returns-then-w-lt64 : goal.returns-then-w-lt64
 returns-then-w-lt64 c = rw (one_shifted _ c.if-w-lt64.true)

@@ -1,0 +1,11 @@
+-- `nib_scripts::outs` is safe and ends.
+use Prim.Native.Nat.{◌≤◌, ◌-◌}
+use Rattle.nib_scripts.proofs.outs.Given as goal
+
+abbrev pub invariant-loop-i : goal.invariant-loop-i
+invariant-loop-i l =
+    l.i ≤ l.n
+
+abbrev pub decreases-loop-i : goal.decreases-loop-i
+decreases-loop-i l =
+    l.n - l.i
