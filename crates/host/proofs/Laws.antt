@@ -1,7 +1,7 @@
 -- Bounds of the numbers that go out: where the unread rest lies is one number that can be taken apart again.
 -- Assumes nothing.
 use mathlib.Core.Path.{◌≡◌, refl}
-use mathlib.Core.Bool.{Bool, true, ◌&&◌, ◌||◌}
+use mathlib.Core.Bool.{true, ◌&&◌, ◌||◌}
 use mathlib.Core.List.{List}
 use Prim.Native.Nat.{ℕ, ◌+◌, ◌*◌, ◌%◌, ◌≤◌, ◌<◌}
 use lib.Dec.{eqb, leb}
@@ -12,9 +12,8 @@ use Rattle.target.specs.declared.Lun.{Lun}
 use Rattle.target.specs.declared.Target.{Target}
 use Rattle.target.specs.declared.Output.{Output}
 use Rattle.target.specs.declared.Output.TheVariants as output
-use Rattle.target.specs.Pick.{pick}
 use Rattle.target.specs.Luns.{works}
-use Rattle.target.specs.Sizes.{page_size, in_limits}
+use Rattle.target.specs.Sizes.{page_size}
 use Rattle.target.proofs.Both.{both}
 use Rattle.target.proofs.Limits.{Limits, limits, registers-all}
 use Rattle.step.specs.Usable.{record_sound, output_sound}

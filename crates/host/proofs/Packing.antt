@@ -10,11 +10,11 @@
 use mathlib.Core.Path.{◌≡◌, refl, sym, ap, ◌∙◌}
 use mathlib.Core.Bool.{Bool, true, false, ◌&&◌}
 use mathlib.Core.List.{List, [], ◌∷◌}
-use Prim.Native.Nat.{ℕ, ◌≤◌, ◌<◌}
+use Prim.Native.Nat.{ℕ, ◌≤◌}
 use native.Mathlib.Omega.{arith}
 use lib.ListN.{length, get_or}
 use lib.Dec.{eqb, leb}
-use borrow.Author.Tests.{eqb-true, eqb-false, leb-true, le-leb, eq-eqb}
+use borrow.Author.Tests.{eqb-true, eqb-false, leb-true, eq-eqb}
 use Rattle.target.proofs.Both.{both, both3, both4, both5}
 use Rattle.target.specs.Pick.{pick}
 use Rattle.target.specs.Commands.{place_of}
@@ -31,12 +31,12 @@ use Rattle.target.specs.declared.Reply.TheVariants as reply
 use Rattle.target.specs.declared.Refusal.TheVariants as refusal
 use Rattle.power.specs.Power.{unpowered}
 use Rattle.step.specs.Usable.{record_sound, usable}
-use Rattle.step.specs.Step.{Buffers, Outcome, steady, step_of}
+use Rattle.step.specs.Step.{Buffers, steady, step_of}
 use Rattle.host.specs.declared.numbers.Cycles.{Cycles}
 use Rattle.host.specs.declared.numbers.Place.{Place}
 use Rattle.host.specs.declared.Image.{Image}
 use Rattle.host.specs.Numbers.{mark_byte, is_set, first_at, sequence_of, cycles_of, output_of, output_place, luns_of, working_of, fail_of, copyback_of, blank_of, same_cycles, same_place, four_marks}
-use Rattle.host.specs.Image.{cycles_in, place_in, kept_in, unpacked, image_from, packed, marks_good, good, taken, put_back, reply_number, HostEvent, evented, event_on}
+use Rattle.host.specs.Image.{cycles_in, place_in, kept_in, unpacked, packed, marks_good, good, taken, put_back, reply_number, evented, event_on}
 
 mark-back : (b : Bool) → is_set (mark_byte b) ≡ b
 mark-back true = refl

@@ -1,5 +1,5 @@
 -- A target's record for a host, all plain numbers, and what the exported functions do with it.
-use Rattle.std.specs.Prelude.{ℕ, ◌+◌, ◌*◌, ◌%◌, Bool, ◌&&◌, List, length, leb}
+use Rattle.std.specs.Prelude.{ℕ, ◌+◌, ◌*◌, ◌%◌, Bool, ◌&&◌, List, leb}
 use Rattle.target.specs.Pick.{pick}
 use Rattle.target.specs.Numbers.{reply_first, reply_second}
 use Rattle.target.specs.declared.Target.{Target}

@@ -7,7 +7,7 @@ use native.Mathlib.Omega.{arith}
 use lib.ListN.{length, set, length-append, length-set}
 use lib.Seq.{sets}
 use Rattle.jobs.specs.declared.Job.TheVariants.{Read, ReadOut, Program, Erase, Status}
-use Rattle.jobs.specs.Cycles.{Cycle, command, data_in, data_out, column_bytes, row_bytes, bytes_of}
+use Rattle.jobs.specs.Cycles.{command, data_in, column_bytes, row_bytes, bytes_of}
 use Rattle.jobs.specs.Writing.{records_of, head_long, head_short, data_records, out_records}
 use Rattle.jobs.proofs.Room.{turn, append-records, data-size, out-size}
 

@@ -6,16 +6,15 @@
 -- Assumes nothing.
 use mathlib.Core.Path.{◌≡◌, refl, sym, ap, ◌∙◌}
 use mathlib.Core.Bool.{Bool, true, false}
-use mathlib.Core.List.{List, [], ◌∷◌, ◌++◌, map}
+use mathlib.Core.List.{List, [], ◌∷◌, ◌++◌}
 use Prim.Native.Nat.{ℕ, zero, suc, ◌+◌, ◌-◌, ◌*◌, ◌/◌, ◌≤◌, ◌<◌}
 use native.Mathlib.Nat.{not-suc-le-zero, le_of_suc-le-suc}
 use native.Mathlib.Numerals.{add-one}
 use native.Mathlib.Omega.{arith}
-use lib.ListN.{length, take, drop, get_or, set, replicate, length-append}
+use lib.ListN.{length, take, drop, get_or, set}
 use lib.Seq.{sets, sets-eq, length-sets, take_all}
 use lib.Dec.{ltb}
 use borrow.Author.Tests.{lt-ltb, le-ltb, ltb-true, ltb-false}
-use Rattle.target.specs.Pick.{pick}
 use Rattle.jobs.specs.declared.writing.Answer.TheVariants.{TooSmall, Written}
 use Rattle.jobs.specs.Cycles.{Cycle, command, address, data_in, data_out, bytes_of}
 use Rattle.jobs.specs.Writing.{data_records, out_records, Wrote, laid}

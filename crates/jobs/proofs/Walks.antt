@@ -7,11 +7,11 @@
 use mathlib.Core.Path.{◌≡◌, refl, sym, ap, ◌∙◌}
 use mathlib.Core.Bool.{Bool, true, false, ◌&&◌}
 use mathlib.Core.List.{List, [], ◌∷◌}
-use Prim.Native.Nat.{ℕ, zero, suc, ◌+◌, ◌-◌, ◌*◌, ◌/◌, ◌%◌, ◌≤◌, ◌<◌}
+use Prim.Native.Nat.{ℕ, zero, suc, ◌+◌, ◌*◌, ◌/◌, ◌%◌, ◌≤◌, ◌<◌}
 use native.Mathlib.Omega.{arith}
 use lib.ListN.{length, drop, get_or, length-drop, drop_of_length-le}
 use lib.Seq.{drop-drop, drop-cons}
-use lib.Dec.{eqb, ltb}
+use lib.Dec.{eqb}
 use Rattle.target.specs.Pick.{pick}
 use Rattle.jobs.specs.declared.Job.{Job}
 use Rattle.jobs.specs.declared.reading.First.{First}
@@ -22,7 +22,7 @@ use Rattle.jobs.specs.declared.reading.Found.{Found}
 use Rattle.jobs.specs.declared.reading.Found.TheVariants as found
 use Rattle.jobs.specs.declared.reading.Listed.{Listed}
 use Rattle.jobs.specs.declared.reading.Listed.TheVariants as listed
-use Rattle.jobs.specs.Reading.{Item, address, command, data_ins, data_outs, addresses, item_if, closed_items, open_items, items, of_kind, run, many_of, is_kind, is_command, through, grouped_of, found_of, begun_of, beginning, job_from, job_at, Next, stuck, on, begun, step, ended, onward, walk, first_misfit}
+use Rattle.jobs.specs.Reading.{Item, address, command, data_ins, data_outs, addresses, item_if, closed_items, open_items, items, of_kind, run, many_of, is_kind, is_command, through, found_of, begun_of, beginning, job_from, job_at, stuck, on, begun, step, onward, walk, first_misfit}
 use Rattle.jobs.proofs.Runs.{record-at, later, next, run_short, run-enough, run-within, two-of-kind, two-of-command}
 
 -- through, item by item

@@ -10,7 +10,7 @@ use Rattle.jobs.specs.declared.reading.Found.{Found}
 use Rattle.jobs.specs.declared.reading.Found.TheVariants as found
 use Rattle.jobs.specs.declared.reading.Listed.{Listed}
 use Rattle.jobs.specs.declared.reading.Listed.TheVariants as listed
-use Rattle.jobs.specs.Writing.{Wrote, wrote_of}
+use Rattle.jobs.specs.Writing.{wrote_of}
 use Rattle.jobs.specs.Reading.{job_at, first_misfit}
 use Rattle.jobs.specs.declared.numbers.NamedJob.{NamedJob}
 use Rattle.jobs.specs.declared.numbers.NamedJob.TheVariants as named

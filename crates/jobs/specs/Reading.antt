@@ -1,7 +1,6 @@
 -- Records grouped into jobs (document 02, A5). A list of records is given as bytes, kind and value; places count records from 0.
 use Rattle.std.specs.Prelude.{ℕ, zero, suc, ◌+◌, ◌-◌, ◌*◌, Bool, true, false, ◌&&◌, ◌||◌, not, List, [], ◌∷◌, length, drop, get_or, eqb}
 use Rattle.target.specs.Pick.{pick}
-use Rattle.jobs.specs.declared.Job.{Job}
 use Rattle.jobs.specs.declared.Job.TheVariants as job
 use Rattle.jobs.specs.declared.reading.First.{First}
 use Rattle.jobs.specs.declared.reading.First.TheVariants as first

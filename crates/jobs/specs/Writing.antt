@@ -1,5 +1,5 @@
 -- Jobs as records (document 02, A5): which are too wide, what their records are, and what writing them into a room leaves.
-use Rattle.std.specs.Prelude.{ℕ, ◌+◌, ◌*◌, Bool, ◌||◌, List, [], ◌∷◌, ◌++◌, map, length, drop, replicate, ltb}
+use Rattle.std.specs.Prelude.{ℕ, Bool, ◌||◌, List, [], ◌∷◌, ◌++◌, map, length, drop, replicate, ltb}
 use Rattle.target.specs.Pick.{pick}
 use Rattle.jobs.specs.Cycles.{Cycle, data_in, data_out, ColumnBytes, RowBytes, column_bytes, row_bytes, read_cycles, read_out_cycles, program_cycles, erase_cycles, status_cycles, bytes_of}
 use Rattle.jobs.specs.declared.Job.{Job}

@@ -1,6 +1,6 @@
 -- What a script expects. An expectation speaks of the events since the expectation before it, or since the script's beginning:
 -- of what each of them was answered.
-use Rattle.std.specs.Prelude.{ℕ, ◌+◌, ◌<◌, ◌≡◌, Bool, true, false, ◌&&◌, ◌||◌, not, List, [], ◌∷◌, eqb, ltb, length, take}
+use Rattle.std.specs.Prelude.{ℕ, ◌<◌, ◌≡◌, Bool, true, false, ◌&&◌, ◌||◌, not, List, [], ◌∷◌, eqb, ltb, length, take}
 use Rattle.target.specs.Pick.{pick}
 use Rattle.nib_args.specs.Asked.{same_bytes}
 use Rattle.nib_expect.specs.declared.Since.{Since}

@@ -1,5 +1,5 @@
 -- An expectation that failed, in words: what was expected, and what came instead. And how a script went.
-use Rattle.std.specs.Prelude.{ℕ, Bool, true, ◌&&◌, ◌||◌, not, List, [], ◌∷◌, ◌++◌, eqb, ltb, length, get_or}
+use Rattle.std.specs.Prelude.{ℕ, true, ◌&&◌, ◌||◌, not, List, [], ◌∷◌, ◌++◌, eqb, ltb, length, get_or}
 use Rattle.nib_words.specs.Desk.{ascii, when, byte_words, decimal}
 use Rattle.nib_words.specs.Say.{refused_words}
 use Rattle.nib_expect.specs.Expect.{refused, gives}

@@ -3,7 +3,7 @@
 --     narrow-widths   no field has more than 24 bits; what the code shifts by
 --     small           and no sum on the way is larger
 -- Assumes nothing.
-use mathlib.Core.Path.{◌≡◌, sym, ap, ◌∙◌}
+use mathlib.Core.Path.{◌≡◌, ap, ◌∙◌}
 use mathlib.Core.Bool.{true}
 use Prim.Native.Nat.{ℕ, ◌+◌, ◌*◌, ◌/◌, ◌%◌, ◌^◌, ◌≤◌, ◌<◌}
 use native.Mathlib.Nat.{lt_of_lt_of_le}
@@ -16,7 +16,7 @@ use Rattle.target.proofs.Both.{both4}
 use Rattle.target.proofs.Widths.{width-holds}
 use Rattle.target.specs.Address.{field_width, page_of, block_of, lun_of}
 use Rattle.target.specs.declared.Geometry.{Geometry}
-use Rattle.nib_places.specs.Places.{rows_fit, is_there, row_of, RowBack, RowsBack}
+use Rattle.nib_places.specs.Places.{rows_fit, is_there, row_of, RowsBack}
 
 -- a number below a field's is held by its bits
 held : (n k : ℕ) → k < n → k < 2 ^ field_width n

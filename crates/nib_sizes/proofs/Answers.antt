@@ -1,11 +1,11 @@
 -- The first refusal that holds, read from the top; and power-on agrees with the plan.
 -- Assumes nothing.
-use mathlib.Core.Path.{◌≡◌, refl, sym, ap, ◌∙◌}
+use mathlib.Core.Path.{◌≡◌, refl, sym, ap}
 use mathlib.Core.Bool.{Bool, true, false, ◌&&◌, not}
 use mathlib.Core.List.{List}
-use Prim.Native.Nat.{ℕ, zero, suc, ◌*◌, ◌≤◌}
+use Prim.Native.Nat.{ℕ, zero, suc, ◌*◌}
 use native.Mathlib.Omega.{arith}
-use lib.Dec.{eqb, ltb, leb}
+use lib.Dec.{eqb, ltb}
 use lib.ListN.{length, replicate, length-replicate}
 use borrow.Author.Tests.{eq-eqb, le-leb}
 use Rattle.slices.specs.Cells.{all_at_most}
@@ -20,7 +20,6 @@ use Rattle.power.proofs.Answers as power
 use Rattle.nib_sizes.specs.declared.Lengths.{Lengths}
 use Rattle.nib_sizes.specs.declared.Known.{Known}
 use Rattle.nib_sizes.specs.declared.Known.TheVariants as known
-use Rattle.nib_sizes.specs.declared.Plan.{Plan}
 use Rattle.nib_sizes.specs.declared.Plan.TheVariants.{Sizes, Refused, TooLarge}
 use Rattle.nib_sizes.specs.Folder.{lengths_of, planned, plan_for, known_of, plan_of, answer_on, Agrees}
 

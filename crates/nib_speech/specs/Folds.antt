@@ -1,5 +1,5 @@
 -- What `explain` holds back, as one number: 0 is nothing. From the lowest bit on: 2 bits the run, 8 the first byte, the rest how many.
-use Rattle.std.specs.Prelude.{ℕ, ◌+◌, ◌*◌, ◌/◌, ◌%◌, Bool, not, List, eqb}
+use Rattle.std.specs.Prelude.{ℕ, ◌+◌, ◌*◌, ◌/◌, ◌%◌, not, List, eqb}
 use Rattle.target.specs.Pick.{pick}
 use Rattle.nib_explain.specs.Fold.{run_number, run_of, carried, held_next, goes_out}
 use Rattle.nib_explain.specs.Words.{run_words, run_reply}

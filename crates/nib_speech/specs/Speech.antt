@@ -10,7 +10,7 @@ use Rattle.nib_text.specs.declared.job_words.Asks.{Asks}
 use Rattle.nib_text.specs.declared.job_words.Asks.TheVariants as asks
 use Rattle.nib_text.specs.Kinds.{kind_number}
 use Rattle.nib_text.specs.Reading.{next_of, is_gap}
-use Rattle.nib_text.specs.Writing.{wrote_next, wrote_odd}
+use Rattle.nib_text.specs.Writing.{wrote_next}
 use Rattle.nib_text.specs.declared.Kind.{Kind}
 use Rattle.nib_text.specs.declared.Kind.TheVariants.{Nothing, Command, Address, DataIn, DataOut, Finish, Protect, Raw, Bytes, Refusal, Accepted}
 use Rattle.nib_text.specs.declared.reading.Reading.{Reading}

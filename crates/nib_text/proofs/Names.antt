@@ -8,10 +8,10 @@ use mathlib.Core.List.{List, [], ◌∷◌}
 use Prim.Native.Nat.{ℕ, suc, ◌+◌, ◌-◌, ◌≤◌, ◌<◌}
 use native.Mathlib.Numerals.{add-one}
 use native.Mathlib.Omega.{arith}
-use lib.ListN.{length, take, drop, get_or}
+use lib.ListN.{take, drop, get_or}
 use lib.Seq.{drop-cons}
 use lib.Dec.{eqb, ltb, leb}
-use borrow.Author.Tests.{eqb-true, ltb-true, le-leb, not-true}
+use borrow.Author.Tests.{eqb-true, ltb-true, le-leb}
 use Rattle.target.specs.Pick.{pick}
 use Rattle.target.proofs.Both.{both3}
 use Rattle.jobs.specs.declared.reading.First.{First}

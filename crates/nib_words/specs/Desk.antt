@@ -1,5 +1,5 @@
 -- Bytes put down one after the other.
-use Rattle.std.specs.Prelude.{ℕ, ◌+◌, ◌/◌, ◌%◌, Bool, true, false, List, [], ◌∷◌, ◌++◌, ltb, length, set}
+use Rattle.std.specs.Prelude.{ℕ, ◌+◌, ◌/◌, ◌%◌, Bool, false, List, [], ◌∷◌, ◌++◌, ltb, length, set}
 use Prim.Native.Char.{code}
 use Prim.Native.String.{String, [] as String·[], ◌∷◌ as ◌String·∷◌}
 use Rattle.target.specs.Pick.{pick}

@@ -1,8 +1,8 @@
 -- Powers of ten: what one more makes, and that all of it is within 64 bits up to 16.
 -- Assumes nothing.
-use mathlib.Core.Path.{◌≡◌, refl, sym, ◌∙◌}
+use mathlib.Core.Path.{◌≡◌, refl, sym}
 use Prim.Native.Nat.{ℕ, zero, suc, ◌-◌, ◌*◌, ◌^◌, ◌≤◌, ◌<◌}
-use native.Mathlib.Nat.{pow-succ', pow-le-pow_right, mul-le-mul, lt_of_le_of_lt, le_of_suc-le-suc}
+use native.Mathlib.Nat.{pow-succ', pow-le-pow_right, mul-le-mul, lt_of_le_of_lt}
 use native.Mathlib.Omega.{arith}
 use lib.Dec.{lit<}
 

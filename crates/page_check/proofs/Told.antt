@@ -6,7 +6,7 @@ use Prim.Native.Nat.{ℕ, ◌≤◌}
 use borrow.Author.Tests.{le-ltb}
 use lib.ListN.{length}
 use Rattle.page_check.specs.Check.{checked_of}
-use Rattle.page_check.specs.Report.{Reported, found_report, report_of}
+use Rattle.page_check.specs.Report.{found_report, report_of}
 use Rattle.page_check.specs.declared.Found.{Found}
 use Rattle.page_check.specs.declared.Checked.{Checked}
 

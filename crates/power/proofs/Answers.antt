@@ -3,14 +3,14 @@
 use mathlib.Core.Path.{◌≡◌, refl, sym, ap, ◌∙◌}
 use mathlib.Core.Bool.{Bool, true, false, ◌&&◌, ◌||◌, not, true≢false}
 use mathlib.Core.List.{List}
-use Prim.Native.Nat.{ℕ, ◌≤◌, ◌<◌}
+use Prim.Native.Nat.{ℕ, ◌≤◌}
 use native.Mathlib.Omega.{arith}
 use lib.Dec.{leb}
 use lib.ListN.{length}
 use borrow.Author.Tests.{le-leb, leb-false, not-false}
 use Rattle.page.specs.Page as page
 use Rattle.page.specs.Page.{fields_in_limits, features, data_bytes, spare_bytes, pages_a_block, blocks_a_lun, lun_count, programs_a_page}
-use Rattle.page.proofs.InLimits.{Fields, limits}
+use Rattle.page.proofs.InLimits.{limits}
 use Rattle.target.specs.Sizes.{within, in_limits, sized}
 use Rattle.target.specs.Words as target
 use Rattle.target.specs.Words.{has_feature}

@@ -8,7 +8,6 @@ use Rattle.target.specs.Sizes.{sized}
 use Rattle.blocks.specs.Blocks.{blank_blocks}
 use Rattle.target.specs.declared.Geometry.{Geometry}
 use Rattle.target.specs.declared.Words.{Words}
-use Rattle.target.specs.declared.Ids.{Ids}
 use Rattle.target.specs.declared.Lun.{Lun}
 use Rattle.target.specs.declared.Target.{Target}
 use Rattle.target.specs.declared.Sequence.TheVariants as sequence

@@ -1,7 +1,6 @@
 -- The rules that an event of each kind can meet, in their order: the others are false of that kind.
 -- Assumes nothing.
 use mathlib.Core.Path.{◌≡◌, refl, sym, ap}
-use mathlib.Core.Bool.{Bool, true, false}
 use Prim.Native.Nat.{ℕ, ◌≤◌, ◌<◌, zero-le}
 use lib.Arith.{lt_of_le-ne}
 use borrow.Author.Tests.{lt-ltb}
@@ -10,7 +9,6 @@ use Rattle.target.specs.Events.{bad_record}
 use Rattle.target.specs.declared.Event.{Event}
 use Rattle.target.specs.declared.Target.{Target}
 use Rattle.target.specs.declared.Refusal.TheVariants.{Unknown, BeforeReset, Misplaced, OutOfRange, LunWorks, OthersWork, Protected, PastEnd, NotOffered, NotWorking, LineHeld, BadRecord, NoCopyback}
-use Rattle.target.specs.declared.Verdict.{Verdict}
 use Rattle.target.specs.declared.Verdict.TheVariants.{Accepted, Refused}
 use Rattle.rules.specs.Rules.{unknown, before_reset, misplaced, out_of_range, lun_works, no_copyback, others_busy, line_low, past_end, not_offered, not_working, line_held, rules, verdict}
 

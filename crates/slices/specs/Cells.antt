@@ -1,5 +1,5 @@
 -- Lists of lent bytes: a part, a splice, an AND, a bound on every byte, whether some byte is set.
-use Rattle.std.specs.Prelude.{ℕ, ◌+◌, Bool, true, false, ◌&&◌, ◌||◌, List, [], ◌∷◌, ◌++◌, take, drop, leb, ltb}
+use Rattle.std.specs.Prelude.{ℕ, Bool, true, false, ◌&&◌, ◌||◌, List, [], ◌∷◌, ◌++◌, take, drop, leb, ltb}
 use Rattle.std.specs.Int.Bits.{bit_and}
 
 -- the n bytes from `at` on

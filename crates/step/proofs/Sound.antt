@@ -1,7 +1,7 @@
 -- What a record that rule 13 lets pass says: its parts, the places in it as numbers, the buffers' lengths.
 -- Assumes nothing.
-use mathlib.Core.Path.{◌≡◌, refl}
-use mathlib.Core.Bool.{Bool, true, false, ◌&&◌, not, false≢true}
+use mathlib.Core.Path.{◌≡◌}
+use mathlib.Core.Bool.{Bool, true, false, ◌&&◌, not}
 use mathlib.Core.List.{List}
 use Prim.Native.Nat.{ℕ, ◌*◌, ◌≤◌, ◌<◌}
 use native.Mathlib.Omega.{arith}
@@ -15,7 +15,6 @@ use Rattle.target.specs.Place.{is_bare, put_out, shows_status}
 use Rattle.target.specs.Views.{taking}
 use Rattle.target.specs.Sizes.{page_size, in_limits, sized}
 use Rattle.target.specs.declared.Column.{Column}
-use Rattle.target.specs.declared.Row.{Row}
 use Rattle.target.specs.declared.Fill.{Fill}
 use Rattle.target.specs.declared.Geometry.{Geometry}
 use Rattle.target.specs.declared.Target.{Target}

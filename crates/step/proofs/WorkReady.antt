@@ -6,12 +6,11 @@ use mathlib.Core.List.{List}
 use Prim.Native.Nat.{ℕ, ◌<◌}
 use native.Mathlib.Omega.{arith}
 use lib.ListN.{get_or}
-use lib.Dec.{eqb, ltb, leb}
+use lib.Dec.{eqb, leb}
 use borrow.Author.Tests.{leb-false, not-true}
 use Rattle.target.specs.Pick.{pick}
-use Rattle.target.specs.Sizes.{page_size}
-use Rattle.target.specs.Address.{lun_of, row_exists, block_exists, lun_exists}
-use Rattle.target.specs.Commands.{takes_column, takes_row, waits_second, looks_of, clears_register, row_of, first_of, second_of, second_row}
+use Rattle.target.specs.Address.{lun_of, row_exists}
+use Rattle.target.specs.Commands.{takes_row, waits_second, looks_of, clears_register, row_of, first_of, second_of, second_row}
 use Rattle.target.specs.Views.{completed, taking, ending, ended_by, ended_with, ends_with}
 use Rattle.target.specs.Place.{is_open, put_out}
 use Rattle.target.specs.Events.{is_reset}
@@ -23,7 +22,6 @@ use Rattle.target.specs.declared.Geometry.{Geometry}
 use Rattle.target.specs.declared.Words.{Words}
 use Rattle.target.specs.declared.Target.{Target}
 use Rattle.target.specs.declared.First.{First}
-use Rattle.target.specs.declared.Second.{Second}
 use Rattle.target.specs.declared.commands.Looks.{Looks}
 use Rattle.target.specs.declared.commands.Looks.TheVariants as looks
 use Rattle.target.specs.declared.commands.Act.{Act}
@@ -41,18 +39,18 @@ use Rattle.target.specs.declared.Sequence.{Sequence}
 use Rattle.target.specs.declared.Sequence.TheVariants.{Idle, Columns, Rows, Single, Due, Filling, Moving, Setting}
 use Rattle.target.specs.declared.Work.{Work}
 use Rattle.target.specs.declared.Work.TheVariants as work
-use Rattle.target.proofs.Both.{both, both3, neither, meant}
+use Rattle.target.proofs.Both.{both, both3, neither}
 use Rattle.target.proofs.Firsts.{each_first, each-end}
 use Rattle.target.proofs.Limits.{Limits, limits}
 use Rattle.rules.specs.Rules.{exists, row_fits, beyond, data_ended, output_ended, out_of_range, past_end, verdict}
-use Rattle.rules.proofs.Passed.{Passed, all-passed}
+use Rattle.rules.proofs.Passed.{all-passed}
 use Rattle.effects.specs.Effects.{acted, ended_work, first_work, command_work, address_work, data_work, work_of}
 use Rattle.step.specs.Usable.{column_held, row_held, sequence_sound, record_sound}
 use Rattle.blocks.specs.Blocks.{page_index, block_bad, page_full, out_of_order}
 use Rattle.step.specs.Buffers.{proceeds, ended_findings, findings}
 use Rattle.step.specs.Step.{Ready, Reaches, EnderReaches}
 use Rattle.blocks.proofs.Places.{row-lun, row_block}
-use Rattle.step.proofs.Sound.{Sound, sound, filling-row}
+use Rattle.step.proofs.Sound.{sound, filling-row}
 
 -- the fields of a row that a command looks at are those that its second command works on
 abbrev pub suits : Act → Bool → Looks → Bool

@@ -7,7 +7,6 @@ use Rattle.target.specs.Sizes.{page_size}
 use Rattle.target.specs.Commands.{second_row}
 use Rattle.target.specs.Views.{ending}
 use Rattle.target.specs.Luns.{works, failed}
-use Rattle.target.specs.declared.Column.{Column}
 use Rattle.target.specs.declared.Row.{Row}
 use Rattle.target.specs.declared.Geometry.{Geometry}
 use Rattle.target.specs.declared.Words.{Words}

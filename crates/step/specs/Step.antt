@@ -1,8 +1,8 @@
 -- One event, whole: the reply, the record after it and every lent byte.
-use Rattle.std.specs.Prelude.{◌≡◌, Bool, true, false, ◌&&◌, List, ℕ, ◌+◌, ◌*◌, ◌<◌, length, get_or, eqb}
+use Rattle.std.specs.Prelude.{◌≡◌, true, List, ℕ, ◌*◌, ◌<◌, length, get_or, eqb}
 use Rattle.target.specs.Pick.{pick}
 use Rattle.target.specs.Sizes.{page_size}
-use Rattle.target.specs.Address.{lun_of, block_exists, row_exists}
+use Rattle.target.specs.Address.{block_exists, row_exists}
 use Rattle.target.specs.Commands.{second_row}
 use Rattle.target.specs.Place.{put_out}
 use Rattle.target.specs.declared.Row.{Row}

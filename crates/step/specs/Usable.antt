@@ -1,6 +1,6 @@
 -- Rule 13 (document 01): the target is powered, each number of the record, taken by itself, is one that a run with that
 -- geometry gives it, and the lent buffers have the geometry's lengths.
-use Rattle.std.specs.Prelude.{ℕ, Bool, true, false, ◌&&◌, ◌||◌, not, List, get_or, eqb, ltb, leb}
+use Rattle.std.specs.Prelude.{ℕ, Bool, true, ◌&&◌, ◌||◌, not, List, eqb, ltb, leb}
 use Rattle.target.specs.Pick.{pick}
 use Rattle.target.specs.Words.{has_feature}
 use Rattle.target.specs.Address.{row_exists}

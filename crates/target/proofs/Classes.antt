@@ -7,7 +7,7 @@ use Prim.Native.Nat.{ℕ, ◌<◌}
 use native.Mathlib.Omega.{arith}
 use lib.Dec.{eqb}
 use borrow.Author.Tests.{eqb-true}
-use lib.ListN.{length, get_or}
+use lib.ListN.{get_or}
 use Rattle.target.specs.Pick.{pick}
 use Rattle.target.specs.Commands.{class_of, row_of, second_row, byte_of, first_commands, first_in, first_of, is_in, first_bytes, second_bytes, alone_bytes, is_first}
 use Rattle.target.specs.declared.First.{First as Command}

@@ -16,8 +16,6 @@ use Rattle.target.specs.declared.First.TheVariants.{Read, ChangeColumn, ChangeCo
 use Rattle.target.specs.declared.commands.FirstFound.{FirstFound}
 use Rattle.target.specs.declared.commands.FirstFound.TheVariants as first
 use Rattle.target.specs.declared.commands.SecondFound.{SecondFound}
-use Rattle.target.specs.declared.Second.{Second}
-use Rattle.target.specs.declared.Second.TheVariants.{StartRead, StartOutput, StartProgram, StartErase, Move, StartCopyback}
 use Rattle.target.proofs.Both.{both, other}
 
 pub listed : (f : First) → place_of f < 13

@@ -1,15 +1,15 @@
 -- A field's width: it holds the field's largest number, no fewer bits do, and it is 64 less the leading zeros of that number.
 -- Each is proved once, over the width.
 -- Assumes nothing.
-use mathlib.Core.Path.{◌≡◌, refl, sym, ap, ◌∙◌}
-use Prim.Native.Nat.{ℕ, zero, suc, ◌+◌, ◌-◌, ◌*◌, ◌/◌, ◌%◌, ◌^◌, ◌≤◌, ◌<◌, zero-le}
-use native.Mathlib.Nat.{pow-suc, div-lt_iff_lt-mul, div-add-mod', eq-zero-or-pos, zero-lt-suc, le_refl, lt_of_not-le, not-le_of_lt, lt_of_lt_of_le, le_of_suc-le-suc, le_antisymm, div-eq_of_lt, mod-eq_of_lt}
+use mathlib.Core.Path.{◌≡◌, ◌∙◌}
+use Prim.Native.Nat.{ℕ, zero, suc, ◌+◌, ◌-◌, ◌*◌, ◌/◌, ◌%◌, ◌^◌, ◌≤◌, ◌<◌}
+use native.Mathlib.Nat.{pow-suc, div-lt_iff_lt-mul, div-add-mod', eq-zero-or-pos, zero-lt-suc, le_refl, lt_of_not-le, lt_of_lt_of_le, le_of_suc-le-suc, le_antisymm}
 use native.Mathlib.Omega.{arith}
 use mathlib.Core.Logic.{⊎_elim}
 use lib.Arith.{half_le}
 use lib.Pow.{pow_mono, shl_exact}
 use lib.Dec.{lit<}
-use lib.Count.{count_leading_zeros, leading_length, leading_le}
+use lib.Count.{count_leading_zeros, leading_length}
 use Rattle.target.specs.Address.{bits_of, field_width}
 
 -- the bits of x hold it

@@ -1,6 +1,6 @@
 -- The command list (document 01, "What the model covers" and "Place"): the first commands and the second commands, what each is
 -- like, and the class of each byte.
-use Rattle.std.specs.Prelude.{ℕ, Bool, true, false, ◌&&◌, ◌||◌, not, List, [], ◌∷◌, map, get_or, eqb}
+use Rattle.std.specs.Prelude.{ℕ, Bool, true, false, ◌&&◌, ◌||◌, List, [], ◌∷◌, map, get_or, eqb}
 use Rattle.target.specs.Pick.{pick}
 use Rattle.target.specs.Words.{has_option}
 use Rattle.target.specs.declared.Words.{Words}

@@ -1,6 +1,6 @@
 -- Views of the open sequence: what an address cycle completes, what takes data, which second command ends it (document 01, "Place"
 -- and "Addresses"). The rules and the effects are stated over these.
-use Rattle.std.specs.Prelude.{ℕ, Bool, true, false, ◌&&◌, ◌||◌, not, eqb}
+use Rattle.std.specs.Prelude.{ℕ, Bool, false, ◌&&◌, ◌||◌, not, eqb}
 use Rattle.target.specs.Pick.{pick}
 use Rattle.target.specs.Address.{column_from, row_from}
 use Rattle.target.specs.Commands.{end_of, other_end, needs_ready, takes_row, in_page, second_of}

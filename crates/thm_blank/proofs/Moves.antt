@@ -1,17 +1,17 @@
 -- 10h and D0h: the number moves as the walk does.
 -- Assumes nothing.
 use mathlib.Core.Path.{◌≡◌, refl, sym, ap, subst, ◌∙◌}
-use mathlib.Core.Bool.{Bool, true, false, ◌&&◌, ◌||◌, not, false≢true}
+use mathlib.Core.Bool.{Bool, true, false, ◌&&◌, not}
 use mathlib.Core.List.{List, [], ◌∷◌}
 use Prim.Native.Nat.{ℕ, zero, suc, ◌+◌, ◌-◌, ◌*◌, ◌≤◌, ◌<◌}
 use native.Mathlib.Omega.{arith}
-use lib.Dec.{eqb, ltb}
+use lib.Dec.{eqb}
 use lib.ListN.{length, get_or, set, replicate, length-replicate}
 use lib.Seq.{get_or-set_same, get_or-set_other}
 use borrow.Author.Tests.{eqb-true, eqb-false, lt-ltb, not-true, not-false}
-use Rattle.slices.specs.Cells.{part, splice, some_set}
+use Rattle.slices.specs.Cells.{part}
 use Rattle.slices.proofs.Parts.{set-splice}
-use Rattle.slices.proofs.Splice.{piece, part-splice, part_apart}
+use Rattle.slices.proofs.Splice.{part-splice, part_apart}
 use Rattle.target.specs.Pick.{pick}
 use Rattle.target.specs.Address.{lun_of, page_of, block_exists, row_exists}
 use Rattle.target.specs.Luns.{lun_unused, lun_at, blank_at, lun_begun}
@@ -24,7 +24,7 @@ use Rattle.target.specs.declared.Work.{Work}
 use Rattle.target.specs.declared.Work.TheVariants as work
 use Rattle.target.specs.declared.commands.Act.{Act}
 use Rattle.target.specs.declared.commands.Act.TheVariants as act
-use Rattle.blocks.specs.Blocks.{block_index, page_index, block_bad, blank_block, blanks_from, blank_blocks}
+use Rattle.blocks.specs.Blocks.{block_index, page_index, block_bad, blank_block, blank_blocks}
 use Rattle.blocks.proofs.Places.{row_block, row-page, row-lun, block-there, page-below, page-parts, block-pages-end}
 use Rattle.lun_records.specs.LunsAfter.{one_more, blank_after, begun}
 use Rattle.effects.specs.Effects.{acted}

@@ -1,6 +1,6 @@
 -- Each LUN's number of blank blocks is the walk's, after every event.
 -- Assumes nothing.
-use mathlib.Core.Path.{◌≡◌, refl, sym, ap, subst, ◌∙◌}
+use mathlib.Core.Path.{◌≡◌, refl, sym, subst, ◌∙◌}
 use mathlib.Core.Bool.{Bool, true, false, ◌&&◌, not, false≢true}
 use mathlib.Core.List.{List, [], ◌∷◌}
 use Prim.Native.Nat.{ℕ, zero, suc, ◌*◌, ◌≤◌, ◌<◌}
@@ -12,7 +12,7 @@ use Rattle.target.specs.Pick.{pick}
 use Rattle.target.specs.Address.{lun_of}
 use Rattle.target.specs.Commands.{second_row, clears_register, closes_copyback, first_of}
 use Rattle.target.specs.Events.{is_reset}
-use Rattle.target.specs.Luns.{lun_at, lun_closed, blank_at, all_readied}
+use Rattle.target.specs.Luns.{blank_at, all_readied}
 use Rattle.target.specs.Views.{completed, taking, ending}
 use Rattle.target.specs.declared.Event.{Event}
 use Rattle.target.specs.declared.Findings.{Findings}
@@ -41,7 +41,7 @@ use Rattle.rules.specs.Rules.{verdict}
 use Rattle.lun_records.specs.LunsAfter.{end_closes, ended_luns, addressed_luns, finished, luns_after}
 use Rattle.effects.specs.Effects.{ended_work, first_work, command_work, address_work, data_work, work_of, target_after, target_refused}
 use Rattle.blocks.specs.Blocks.{blank_blocks}
-use Rattle.power.specs.Power.{geometry_of, powered_of, walked, power_answer}
+use Rattle.power.specs.Power.{geometry_of, powered_of, walked}
 use Rattle.step.specs.Usable.{sequence_sound}
 use Rattle.step.specs.Buffers.{counts_after, ended_findings, findings}
 use Rattle.step.specs.Step.{Buffers, State, worked, accepted_by, accepted, by_verdict, steady, EnderReaches}

@@ -1,6 +1,6 @@
 -- Document 01's "Cases to hold to" (a) to (j), as one table: each a trace on T1 or T2 as power-on makes them, and its
 -- replies. Two bytes a record: kind and value, and 00 00 accepted, 01 and the byte, 02 and the refusal number.
-use Rattle.std.specs.Prelude.{◌≡◌, Bool, true, List, [], ◌∷◌, ◌++◌, ℕ, ◌*◌, get_or, replicate}
+use Rattle.std.specs.Prelude.{◌≡◌, true, List, [], ◌∷◌, ◌++◌, ℕ, ◌*◌, replicate}
 use Rattle.target.specs.Address.{page_of, block_of, lun_of}
 use Rattle.target.specs.Sizes.{page_size, sized}
 use Rattle.target.specs.declared.Geometry.{Geometry}
@@ -8,7 +8,7 @@ use Rattle.target.specs.declared.Row.{Row}
 use Rattle.power.specs.Power.{power_number}
 use Rattle.blocks.specs.Blocks.{page_index}
 use Rattle.thm_kept.specs.Kept.{lets_pass}
-use Rattle.thm_cases.specs.Parts.{Part, t1, t2, t1_with, powered, first, run, told}
+use Rattle.thm_cases.specs.Parts.{Part, t1, t2, t1_with, powered, first, told}
 
 -- records of a trace
 abbrev pub command : ℕ → List ℕ → List ℕ

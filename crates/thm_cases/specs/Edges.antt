@@ -1,10 +1,10 @@
 -- The promises of demand 1, of the refusals that no event gets and of document 02's A2, each at its edge: a run on T1
 -- from power-on, with what is told and left. The promises themselves are statements of crates `thm_demands` and
 -- `thm_steps`; here each is computed once.
-use Rattle.std.specs.Prelude.{◌≡◌, List, [], ◌∷◌, ◌++◌, ℕ, zero, suc, length, replicate}
+use Rattle.std.specs.Prelude.{◌≡◌, List, [], ◌∷◌, ◌++◌, ℕ, zero, suc, replicate}
 use Rattle.power.specs.Power.{power_number, power_of}
 use Rattle.trace.specs.Run.{run_number, trace_of}
-use Rattle.thm_cases.specs.Parts.{Part, t1, t1_with, first, run, told}
+use Rattle.thm_cases.specs.Parts.{t1, t1_with, first, run, told}
 use Rattle.thm_cases.specs.Cases.{command, reset, column, row, data_in, data_out, finish, protect, accepted, byte, refused, read}
 
 -- 80h, row 0, one byte and 10h, without a finish

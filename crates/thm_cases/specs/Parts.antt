@@ -2,7 +2,7 @@
 -- them.
 use Rattle.std.specs.Prelude.{List, [], ◌∷◌, ◌++◌, ℕ, length, replicate}
 use Rattle.power.specs.Power.{Powering, power_of}
-use Rattle.step.specs.Step.{Buffers, State}
+use Rattle.step.specs.Step.{State}
 use Rattle.trace.specs.Run.{Traced, trace_of}
 
 -- the parameter page of a part of 512+16 bytes with 2 LUNs and 4 programs a page: feature bits 1 and 8, optional bits

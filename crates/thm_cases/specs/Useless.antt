@@ -8,7 +8,7 @@ use Rattle.target.specs.declared.Reply.TheVariants as reply
 use Rattle.target.specs.declared.Work.TheVariants as work
 use Rattle.blocks.specs.Blocks.{page_index}
 use Rattle.step.specs.Buffers.{counts_after}
-use Rattle.step.specs.Step.{State, step_of}
+use Rattle.step.specs.Step.{step_of}
 use Rattle.trace.specs.Run.{Running, ran_all, start}
 use Rattle.thm_cases.specs.Parts.{Part, t1, t1_with, first, run, told}
 use Rattle.thm_cases.specs.Cases.{reset, program, read, accepted, byte, data_out}

@@ -21,7 +21,7 @@ use Rattle.target.specs.declared.Verdict.TheVariants as verdicts
 use Rattle.target.proofs.Both.{both}
 use Rattle.rules.specs.Rules.{Rule, rules, first_holding, verdict}
 use Rattle.step.specs.Usable.{usable}
-use Rattle.step.specs.Step.{Buffers, Outcome, reply_of, accepted_by, accepted, by_verdict, steady, step_of}
+use Rattle.step.specs.Step.{Buffers, reply_of, accepted_by, accepted, by_verdict, steady, step_of}
 use Rattle.thm_kept.proofs.Choice.{by-pick}
 use Rattle.thm_demands.specs.Exact.{rules_of, numbers, speaks, silent, Exact}
 

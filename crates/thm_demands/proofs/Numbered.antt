@@ -1,17 +1,15 @@
 -- 16, 20 to 25 and the odd byte, as specs/Numbered.antt states them.
 -- Assumes nothing.
-use mathlib.Core.Path.{◌≡◌, refl, sym, ap, subst, ◌∙◌}
+use mathlib.Core.Path.{◌≡◌, refl, sym, ap, ◌∙◌}
 use mathlib.Core.Bool.{Bool, true, false}
-use mathlib.Core.List.{List, [], ◌∷◌}
+use mathlib.Core.List.{List}
 use Prim.Native.Nat.{ℕ, ◌+◌, ◌*◌, ◌%◌}
 use native.Mathlib.Omega.{arith}
 use lib.ListN.{length}
 use lib.Dec.{eqb, ltb}
 use Rattle.target.specs.Pick.{pick}
 use Rattle.target.specs.Numbers.{number_of}
-use Rattle.target.specs.declared.Event.{Event}
 use Rattle.target.specs.declared.Target.{Target}
-use Rattle.target.specs.declared.Refusal.{Refusal}
 use Rattle.target.specs.declared.Refusal.TheVariants.{BadRecord, NotUsable}
 use Rattle.target.specs.declared.Reply.TheVariants as reply
 use Rattle.power.specs.declared.PowerRefusal.{PowerRefusal}
@@ -21,7 +19,7 @@ use Rattle.power.specs.declared.PowerAnswer.TheVariants as power
 use Rattle.power.specs.Power.{power_number, wrong_length, unsigned, crc_bad, field_bad, buffer_bad, content_bad, or_refused, power_answer, powering, power_of}
 use Rattle.step.specs.Step.{Buffers}
 use Rattle.trace.specs.declared.RunAnswer.TheVariants as answer
-use Rattle.trace.specs.Run.{run_number, Running, Traced, written, stands_usable, odd_answered, needed, start, traced, trace_of, batch_of}
+use Rattle.trace.specs.Run.{run_number, Running, Traced, written, stands_usable, odd_answered, needed, traced, trace_of, batch_of}
 use Rattle.thm_kept.specs.Kept.{lets_pass}
 use Rattle.thm_demands.specs.Numbered.{PowerExact, TraceRoom, BatchRoom, unchanged, TraceRefused, BatchRefused, ran, OddByte, NoOddByte}
 

@@ -4,11 +4,11 @@ use mathlib.Core.Path.{◌≡◌, refl, sym, ap, subst, ◌∙◌}
 use mathlib.Core.Bool.{Bool, true, false, ◌&&◌, ◌||◌, not, false≢true}
 use mathlib.Core.List.{List, [], ◌∷◌}
 use mathlib.Core.Logic.{◌⊎◌, inl, inr, ⊎_elim}
-use Prim.Native.Nat.{ℕ, zero, suc, ◌+◌, ◌*◌, ◌≤◌, ◌<◌}
+use Prim.Native.Nat.{ℕ, zero, suc, ◌+◌, ◌*◌, ◌≤◌}
 use native.Mathlib.Omega.{arith}
-use lib.ListN.{length, replicate, length-replicate}
+use lib.ListN.{length, length-replicate}
 use lib.Dec.{eqb, ltb, leb}
-use borrow.Author.Tests.{not-true, not-false, eqb-true, lt-ltb, le-leb, eq-eqb}
+use borrow.Author.Tests.{not-true, not-false, le-leb}
 use Rattle.target.specs.Pick.{pick, or_else}
 use Rattle.target.specs.Events.{is_bus, is_reset, bad_record}
 use Rattle.target.specs.Luns.{lun_ready, is_unused, all_readied}
@@ -16,11 +16,10 @@ use Rattle.target.specs.Numbers.{number_of}
 use Rattle.target.specs.Views.{completed, taking, ending, ended_by, ended_with, ends_with}
 use Rattle.target.specs.Place.{is_open}
 use Rattle.target.specs.Commands.{row_of, first_of, second_of, second_row, clears_register, class_of, offered}
-use Rattle.target.specs.Sizes.{in_limits, sized}
+use Rattle.target.specs.Sizes.{sized}
 use Rattle.target.specs.declared.Event.{Event}
 use Rattle.target.specs.declared.Geometry.{Geometry}
 use Rattle.target.specs.declared.Target.{Target}
-use Rattle.target.specs.declared.Decoder.{Decoder}
 use Rattle.target.specs.declared.Row.{Row}
 use Rattle.target.specs.declared.Column.{Column}
 use Rattle.target.specs.declared.Findings.{Findings}
@@ -50,7 +49,7 @@ use Rattle.target.specs.declared.Verdict.{Verdict}
 use Rattle.target.specs.declared.Verdict.TheVariants as verdicts
 use Rattle.target.specs.declared.Work.{Work}
 use Rattle.target.specs.declared.Work.TheVariants as work
-use Rattle.target.proofs.Both.{both, neither, other}
+use Rattle.target.proofs.Both.{both, other}
 use Rattle.target.proofs.Limits.{limits}
 use Rattle.rules.specs.Rules.{rules, verdict, unknown, before_reset, fits, misplaced, others_busy, is_guarded, line_low}
 use Rattle.rules.proofs.ByKind.{command-verdict}
@@ -58,20 +57,20 @@ use Rattle.rules.proofs.Passed.{all-passed}
 use Rattle.effects.specs.Effects.{acted, ended_work, first_work, command_work, address_work, data_work, work_of, target_after, target_refused}
 use Rattle.lun_records.specs.LunsAfter.{luns_after}
 use Rattle.page.specs.Page.{fields_in_limits}
-use Rattle.power.specs.Power.{geometry_of, walked, luns_found, powered_of, unpowered, wrong_length, field_bad, buffer_bad, power_answer, powering, power_of}
+use Rattle.power.specs.Power.{geometry_of, walked, luns_found, powered_of, unpowered, wrong_length, buffer_bad, power_answer, powering, power_of}
 use Rattle.power.specs.declared.PowerRefusal.{PowerRefusal}
 use Rattle.power.specs.declared.PowerAnswer.{PowerAnswer}
 use Rattle.power.specs.declared.PowerAnswer.TheVariants as power
-use Rattle.power.proofs.Answers.{Passed, all-passed as all-power-passed, limited, worded, accepted-limited}
+use Rattle.power.proofs.Answers.{all-passed as all-power-passed, limited, worded, accepted-limited}
 use Rattle.blocks.specs.Blocks.{blank_block, blanks_from, blank_blocks}
 use Rattle.step.specs.Usable.{marks_sound, record_sound, usable}
 use Rattle.step.specs.Buffers.{array_after, counts_after}
 use Rattle.step.specs.Step.{Buffers, Outcome, State, reply_of, worked, accepted_by, accepted, by_verdict, steady, step_of}
-use Rattle.thm_kept.proofs.Choice.{by-pick, and-true, then-not}
+use Rattle.thm_kept.proofs.Choice.{by-pick, and-true}
 use Rattle.thm_kept.proofs.Marks.{each-mark}
 use Rattle.thm_kept.proofs.Kept.{Fit, step-usable, step-steady, all_sound}
 use Rattle.thm_demands.specs.Runs.{step_at, left, after, powered_up}
-use Rattle.thm_demands.specs.Exact.{rules_of, speaks}
+use Rattle.thm_demands.specs.Exact.{rules_of}
 use Rattle.thm_demands.proofs.Exact.{by_number, never-13, exact}
 use Rattle.thm_demands.specs.Promises.{dropped, RefusedCycle, BadChangesNothing, RefusedBench, RefusedPower, Preserved, LineLow, low_through, LineLowRun, reset, ResetReadies, NeverUnusable}
 

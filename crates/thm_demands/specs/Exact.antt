@@ -1,5 +1,5 @@
 -- Demand 2's "at no other time": each refusal is given exactly when its rule holds and none before it in document 01's order does.
-use Rattle.std.specs.Prelude.{◌≡◌, Bool, true, false, ◌&&◌, not, List, [], ◌∷◌, ◌⊎◌, ℕ, length, eqb}
+use Rattle.std.specs.Prelude.{◌≡◌, Bool, true, false, ◌&&◌, not, List, [], ◌∷◌, ℕ, length, eqb}
 use Rattle.target.specs.Pick.{pick}
 use Rattle.target.specs.Numbers.{number_of}
 use Rattle.target.specs.declared.Event.{Event}

@@ -12,7 +12,7 @@ use Rattle.target.specs.declared.Output.TheVariants.{Nothing}
 use Rattle.power.specs.declared.PowerRefusal.{PowerRefusal}
 use Rattle.power.specs.declared.PowerAnswer.TheVariants as power
 use Rattle.power.specs.Power.{power_answer, power_of, unpowered}
-use Rattle.step.specs.Step.{Buffers, Outcome, State, step_of}
+use Rattle.step.specs.Step.{Buffers, State, step_of}
 use Rattle.thm_demands.specs.Runs.{step_at, left, after, powered_up}
 
 -- the record with no sequence open, no output and none kept, which counts as output; otherwise the same

@@ -1,9 +1,8 @@
 -- Runs, as the demands speak of them: any list of events, each stepped with the run's own buffers.
 use Rattle.std.specs.Prelude.{List, [], ◌∷◌, ℕ, length, replicate}
 use Rattle.target.specs.declared.Event.{Event}
-use Rattle.target.specs.declared.Target.{Target}
 use Rattle.power.specs.Power.{powered_of}
-use Rattle.step.specs.Step.{Buffers, Outcome, State, step_of}
+use Rattle.step.specs.Step.{Outcome, State, step_of}
 
 -- what one event answers and leaves there
 abbrev pub step_at : List ℕ → List ℕ → State → Event → Outcome

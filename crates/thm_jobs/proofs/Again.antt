@@ -1,11 +1,11 @@
 -- Read and written.
 -- Assumes nothing.
 use mathlib.Core.Path.{◌≡◌, refl, sym, ap, subst, ◌∙◌}
-use mathlib.Core.Bool.{Bool, true, false, ◌&&◌, ◌||◌}
+use mathlib.Core.Bool.{Bool, true, false, ◌&&◌}
 use mathlib.Core.List.{List, [], ◌∷◌, ◌++◌}
-use Prim.Native.Nat.{ℕ, zero, suc, ◌+◌, ◌-◌, ◌*◌, ◌/◌, ◌%◌, ◌≤◌, ◌<◌}
+use Prim.Native.Nat.{ℕ, zero, suc, ◌+◌, ◌-◌, ◌*◌, ◌/◌, ◌%◌, ◌<◌}
 use native.Mathlib.Omega.{arith}
-use lib.ListN.{length, take, drop, get_or, length-append}
+use lib.ListN.{length, drop, get_or}
 use lib.Seq.{get_or-drop, drop-drop, drop-append_seam}
 use lib.Dec.{eqb, ltb}
 use borrow.Author.Tests.{eqb-true, le-ltb}
@@ -18,9 +18,8 @@ use Rattle.jobs.specs.declared.reading.Reached.{Reached}
 use Rattle.jobs.specs.declared.reading.Reached.TheVariants as reached
 use Rattle.jobs.specs.declared.reading.Found.{Found}
 use Rattle.jobs.specs.declared.reading.Found.TheVariants as found
-use Rattle.jobs.specs.Cycles.{ColumnBytes, RowBytes, column_bytes, row_bytes}
 use Rattle.jobs.specs.Writing.{wide, too_wide, records_of, data_records, out_records}
-use Rattle.jobs.specs.Reading.{Item, address, command, data_ins, data_outs, addresses, items, first_of, beginning, of_kind, is_kind, is_command, run, many_of, through, column_at, row_at, grouped_of, found_of, begun_of, job_from, job_at}
+use Rattle.jobs.specs.Reading.{Item, address, command, data_ins, data_outs, addresses, items, first_of, beginning, of_kind, many_of, through, column_at, row_at, grouped_of, found_of, begun_of, job_from, job_at}
 use Rattle.jobs.proofs.Jobs.{read-size, read-out-size, program-size, erase-size, status-size}
 use Rattle.jobs.proofs.Walks.{through-address, through-command, through-data, through-outs, through-none}
 use Rattle.thm_jobs.specs.Round.{AllBytes, values_of, data_at, WrittenAgain, ReadAndWritten}

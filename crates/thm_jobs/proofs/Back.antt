@@ -2,24 +2,23 @@
 -- Assumes nothing.
 use mathlib.Core.Path.{◌≡◌, refl, sym, ap, ◌∙◌}
 use mathlib.Core.Bool.{Bool, true, false, ◌||◌}
-use mathlib.Core.List.{List, [], ◌∷◌, ◌++◌}
-use Prim.Native.Nat.{ℕ, zero, suc, ◌+◌, ◌-◌, ◌*◌, ◌/◌, ◌%◌, ◌≤◌, ◌<◌}
+use mathlib.Core.List.{List, ◌∷◌, ◌++◌}
+use Prim.Native.Nat.{ℕ, ◌+◌, ◌-◌, ◌*◌, ◌/◌, ◌%◌, ◌≤◌}
 use native.Mathlib.Omega.{arith}
-use lib.ListN.{length, take, drop, get_or, length-append}
+use lib.ListN.{length, drop}
 use lib.Seq.{drop_at, drop-drop}
-use lib.Dec.{eqb, ltb}
+use lib.Dec.{ltb}
 use borrow.Author.Tests.{ltb-false}
 use Rattle.target.specs.Pick.{pick}
 use Rattle.jobs.specs.declared.Job.{Job}
 use Rattle.jobs.specs.declared.Job.TheVariants.{Read, ReadOut, Program, Erase, Status}
 use Rattle.jobs.specs.declared.writing.Answer.{Answer}
 use Rattle.jobs.specs.declared.writing.Answer.TheVariants.{TooWide, TooSmall, Written}
-use Rattle.jobs.specs.declared.reading.Found.{Found}
 use Rattle.jobs.specs.declared.reading.Found.TheVariants.{Whole}
-use Rattle.jobs.specs.Writing.{wide, too_wide, records_of, Wrote, laid, wrote_of, data_records, out_records}
-use Rattle.jobs.specs.Reading.{is_kind, first_of, beginning, through, column_at, row_at, many_of, job_from, job_at}
+use Rattle.jobs.specs.Writing.{wide, too_wide, records_of, Wrote, laid, wrote_of, data_records}
+use Rattle.jobs.specs.Reading.{is_kind, first_of, beginning, through, column_at, row_at, job_from, job_at}
 use Rattle.jobs.proofs.Jobs.{read-size, read-out-size, program-size, erase-size, status-size}
-use Rattle.thm_jobs.specs.Round.{data_at, values_of, data_place, data_count, data_of, ReadBack, WrittenAndRead}
+use Rattle.thm_jobs.specs.Round.{data_at, data_place, data_count, data_of, WrittenAndRead}
 use Rattle.thm_jobs.proofs.Shapes.{outs-many, data-many, given-then, past-data, values-back}
 
 -- numbers that are not too wide come back from their bytes

@@ -5,7 +5,7 @@
 use mathlib.Core.Path.{◌≡◌, refl, sym, ap, ◌∙◌}
 use mathlib.Core.Bool.{Bool, true, false, ◌&&◌, not}
 use mathlib.Core.List.{List, [], ◌∷◌, ◌++◌}
-use Prim.Native.Nat.{ℕ, zero, suc, ◌+◌, ◌-◌, ◌*◌, ◌/◌, ◌%◌, ◌≤◌, ◌<◌}
+use Prim.Native.Nat.{ℕ, zero, suc, ◌+◌, ◌*◌, ◌/◌, ◌≤◌, ◌<◌}
 use native.Mathlib.Omega.{arith}
 use lib.ListN.{length, take, drop, get_or, take-append-drop, drop_of_length-le}
 use lib.Seq.{drop_at, length-take-le}
@@ -21,14 +21,13 @@ use Rattle.jobs.specs.declared.reading.Reached.{Reached}
 use Rattle.jobs.specs.declared.reading.Reached.TheVariants as reached
 use Rattle.jobs.specs.declared.reading.Found.{Found}
 use Rattle.jobs.specs.declared.reading.Found.TheVariants as found
-use Rattle.jobs.specs.declared.reading.Listed.{Listed}
 use Rattle.jobs.specs.declared.reading.Listed.TheVariants as listed
 use Rattle.jobs.specs.Writing.{too_wide, records_of}
-use Rattle.jobs.specs.Reading.{Item, address, command, data_ins, data_outs, items, beginning, of_kind, is_kind, is_command, many_of, through, found_of, begun_of, job_from, job_at, Next, stuck, on, begun, step, ended, onward, walk, first_misfit}
+use Rattle.jobs.specs.Reading.{Item, address, command, data_ins, data_outs, items, beginning, of_kind, is_kind, many_of, through, found_of, begun_of, job_from, job_at, Next, stuck, on, begun, step, ended, onward, walk, first_misfit}
 use Rattle.jobs.proofs.Jobs.{read-size, read-out-size, program-size, erase-size, status-size}
 use Rattle.jobs.proofs.Runs.{later, never}
 use Rattle.jobs.proofs.Walks.{walk-address, walk-command, Many, ins, outs, walk-many, walk-job, ahead, job-ahead, walk_start, walk_end, walk-odd}
-use Rattle.thm_jobs.specs.Round.{AllBytes, data_at, data_place, data_count, Given, none_wide, records_all, WholeJobs, Beginning, FirstMisfit, NamedByFirst, JobsAreWhole, WholeAreJobs}
+use Rattle.thm_jobs.specs.Round.{AllBytes, data_at, data_place, data_count, Given, none_wide, records_all, WholeJobs, Beginning, NamedByFirst, JobsAreWhole, WholeAreJobs}
 use Rattle.thm_jobs.proofs.Shapes.{none-come, both_of}
 use Rattle.thm_jobs.proofs.Back.{job-back}
 use Rattle.thm_jobs.proofs.Again.{read-and-written}

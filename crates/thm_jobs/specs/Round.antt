@@ -6,7 +6,7 @@ use Rattle.jobs.specs.declared.writing.Answer.TheVariants.{Written}
 use Rattle.jobs.specs.declared.reading.Found.TheVariants.{Whole}
 use Rattle.jobs.specs.declared.reading.Listed.TheVariants.{Jobs, Misfit}
 use Rattle.jobs.specs.Writing.{too_wide, records_of, wrote_of}
-use Rattle.jobs.specs.Reading.{value_at, is_kind, job_at, first_misfit}
+use Rattle.jobs.specs.Reading.{is_kind, job_at, first_misfit}
 
 -- every byte of a list is one
 pub record AllBytes (ts : List ℕ) : Type 0 where

@@ -6,7 +6,6 @@ use Prim.Native.Nat.{ℕ, ◌+◌, ◌≤◌, ◌<◌}
 use native.Mathlib.Omega.{arith}
 use lib.Dec.{eqb, ltb, leb}
 use borrow.Author.Tests.{leb-false, lt-ltb, le-leb, not-false}
-use Rattle.target.specs.Pick.{pick}
 use Rattle.target.specs.Address.{lun_of}
 use Rattle.target.specs.Sizes.{page_size, column_end}
 use Rattle.target.specs.Commands.{byte_of, cycles_of, then_of, gives_status, in_page, takes_row, first_of, second_row}
@@ -32,7 +31,7 @@ use Rattle.target.specs.declared.views.Ender.TheVariants as ender
 use Rattle.target.proofs.Both.{both}
 use Rattle.rules.specs.Rules.{row_fits, beyond, output_ended}
 use Rattle.effects.specs.Effects.{ended_lun, ended_place, ended_output, shown, first_output, command_output, addressed_output, advanced, output_after, row_selects, selected_after}
-use Rattle.memory.specs.Memory.{remembered, first_kept, command_kept, row_kept, addressed_kept, kept_after}
+use Rattle.memory.specs.Memory.{remembered, first_kept, row_kept, kept_after}
 use Rattle.step.specs.Usable.{sequence_sound, output_sound, kept_sound}
 use Rattle.thm_kept.proofs.Choice.{by-pick, and-true}
 use Rattle.thm_kept.proofs.Views.{row_named, Completes, completes, Ends, Ending, ends}

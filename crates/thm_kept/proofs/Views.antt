@@ -34,7 +34,7 @@ use Rattle.target.specs.declared.views.Taker.TheVariants as taker
 use Rattle.target.specs.declared.views.Ended.{Ended}
 use Rattle.target.specs.declared.views.Ender.{Ender}
 use Rattle.target.specs.declared.views.Ender.TheVariants as ender
-use Rattle.target.proofs.Both.{both, both3}
+use Rattle.target.proofs.Both.{both3}
 use Rattle.rules.specs.Rules.{exists, row_fits}
 use Rattle.effects.specs.Effects.{is_move}
 use Rattle.step.specs.Usable.{column_held, row_held, sequence_sound}

@@ -43,7 +43,7 @@ use Rattle.target.proofs.Both.{both}
 use Rattle.rules.specs.Rules.{fits, output_ended, past_end}
 use Rattle.effects.specs.Effects.{sequence_after, ended_output, first_output, command_output, output_after, clear_set, clear_after, high_after, target_after, acted, ended_work, first_work, command_work, address_work, data_work, work_of}
 use Rattle.memory.specs.Memory.{kept_after}
-use Rattle.lun_records.specs.LunsAfter.{begun, blank_after, end_closes, ended_luns, addressed_luns, luns_after}
+use Rattle.lun_records.specs.LunsAfter.{blank_after, end_closes, ended_luns, addressed_luns, luns_after}
 use Rattle.step.specs.Usable.{sequence_sound}
 use Rattle.blocks.specs.Blocks.{block_index, page_full, out_of_order, block_bad, blank_block}
 use Rattle.blocks.proofs.Places.{row_block}

@@ -1,7 +1,7 @@
 -- Every run from an accepted power-on keeps four LUN records and rule 13, so demand 3 holds from whatever state it reaches.
 -- Assumes nothing.
 use mathlib.Core.Path.{◌≡◌, refl, sym, subst, ◌∙◌}
-use mathlib.Core.Bool.{Bool, true, false, not}
+use mathlib.Core.Bool.{Bool, true, false}
 use mathlib.Core.List.{List, [], ◌∷◌}
 use Prim.Native.Nat.{ℕ}
 use lib.ListN.{length, length-set}
@@ -34,7 +34,7 @@ use Rattle.step.specs.Step.{Buffers, steady, by_verdict, accepted, accepted_by, 
 use Rattle.thm_kept.proofs.Choice.{by-pick}
 use Rattle.thm_demands.specs.Runs.{after, powered_up, left, step_at}
 use Rattle.thm_demands.proofs.Promised.{powered-fit, run-fit}
-use Rattle.thm_stations.specs.Isolated.{Fine, Start}
+use Rattle.thm_stations.specs.Isolated.{Fine}
 use Rattle.thm_stations.specs.Reached.{FromPowerOn}
 use Rattle.thm_stations.proofs.Isolation.{isolation}
 

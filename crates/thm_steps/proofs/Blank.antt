@@ -1,20 +1,20 @@
 -- "Blank blocks" (document 02, A7), as specs/Steps.antt states it.
 -- Assumes nothing.
 use mathlib.Core.Path.{◌≡◌, refl, sym, ap, ◌∙◌}
-use mathlib.Core.Bool.{Bool, true, false, ◌&&◌, ◌||◌, not, false≢true}
+use mathlib.Core.Bool.{Bool, true, false, ◌||◌, false≢true}
 use mathlib.Core.List.{List}
 use Prim.Native.Nat.{ℕ, zero, suc, ◌+◌, ◌*◌, ◌<◌}
 use native.Mathlib.Omega.{arith}
 use lib.ListN.{get_or}
 use lib.Dec.{eqb}
 use borrow.Author.Tests.{not-true, not-false}
-use Rattle.slices.specs.Cells.{part, some_set}
+use Rattle.slices.specs.Cells.{part}
 use Rattle.target.specs.Pick.{pick}
 use Rattle.target.specs.Address.{lun_of}
 use Rattle.target.specs.Events.{is_reset}
 use Rattle.target.specs.Commands.{second_of, second_row}
 use Rattle.target.specs.Luns.{blank_at, all_readied}
-use Rattle.target.specs.Views.{completed, ending, ended_with}
+use Rattle.target.specs.Views.{completed, ended_with}
 use Rattle.target.specs.declared.Column.{Column}
 use Rattle.target.specs.declared.Row.{Row}
 use Rattle.target.specs.declared.Lun.{Lun}

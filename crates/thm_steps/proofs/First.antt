@@ -1,7 +1,7 @@
 -- "Place", as specs/Steps.antt states it: what holds of every first command is one test, computed over their list.
 -- Assumes nothing.
 use mathlib.Core.Path.{◌≡◌, refl, sym, ap, ◌∙◌}
-use mathlib.Core.Bool.{Bool, true, false, ◌||◌, not, false≢true}
+use mathlib.Core.Bool.{Bool, false, ◌||◌, not, false≢true}
 use mathlib.Core.List.{List}
 use Prim.Native.Nat.{ℕ}
 use lib.Dec.{eqb}

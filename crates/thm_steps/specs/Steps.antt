@@ -27,7 +27,6 @@ use Rattle.target.specs.declared.Sequence.TheVariants.{Idle, Columns, Rows, Sing
 use Rattle.target.specs.declared.Output.{Output}
 use Rattle.target.specs.declared.Output.TheVariants as output
 use Rattle.target.specs.declared.Refusal.{Refusal}
-use Rattle.target.specs.declared.Reply.{Reply}
 use Rattle.target.specs.declared.Reply.TheVariants as reply
 use Rattle.rules.specs.Rules.{output_works, output_ended}
 use Rattle.effects.specs.Effects.{advanced}

@@ -1,8 +1,7 @@
 -- Any number of blank blocks from 0 to all is that of a part: nothing is programmed, and the LUN's other blocks are factory bad.
 -- Assumes nothing.
-use mathlib.Core.Path.{◌≡◌, refl, ap, ◌∙◌}
+use mathlib.Core.Path.{◌≡◌, refl}
 use mathlib.Core.Bool.{Bool, true, false, ◌&&◌, not}
-use mathlib.Core.List.{List}
 use Prim.Native.Nat.{ℕ, zero, suc, ◌+◌, ◌-◌, ◌*◌, ◌≤◌, ◌<◌}
 use native.Mathlib.Omega.{arith}
 use lib.ListN.{take, drop, get_or, replicate}
@@ -10,7 +9,6 @@ use lib.Dec.{eqb, ltb}
 use borrow.Author.Tests.{ltb-true, ltb-false, lt-ltb, le-ltb}
 use Rattle.slices.specs.Cells.{part, some_set}
 use Rattle.target.specs.Luns.{blank_at}
-use Rattle.target.specs.declared.Geometry.{Geometry}
 use Rattle.blocks.specs.Blocks.{blank_block, blanks_from, blank_blocks}
 use Rattle.power.specs.Power.{walked}
 use Rattle.thm_tight.proofs.Part.{Part, counts_of, flags_of, flag-bad, flag-good}

@@ -42,7 +42,7 @@ use Rattle.target.specs.declared.views.Given.{Given}
 use Rattle.target.specs.declared.views.Given.TheVariants as goal
 use Rattle.target.specs.declared.commands.Then.{Then}
 use Rattle.target.specs.declared.commands.Then.TheVariants as then
-use Rattle.target.proofs.Both.{both, both3, other}
+use Rattle.target.proofs.Both.{both, both3}
 use Rattle.target.proofs.Firsts.{named}
 use Rattle.target.proofs.Limits.{Limits, limits}
 use Rattle.rules.specs.Rules.{exists, row_fits, beyond, lacks_copyback, not_working}

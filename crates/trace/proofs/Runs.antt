@@ -5,12 +5,12 @@
 use mathlib.Core.Path.{◌≡◌, refl, sym, ap, subst, ◌∙◌}
 use mathlib.Core.Bool.{Bool, true, false, ◌&&◌, ◌||◌}
 use mathlib.Core.List.{List}
-use Prim.Native.Nat.{ℕ, zero, suc, ◌+◌, ◌*◌, ◌/◌, ◌≤◌, ◌<◌, min}
+use Prim.Native.Nat.{ℕ, zero, suc, ◌+◌, ◌*◌, ◌≤◌, ◌<◌, min}
 use native.Mathlib.Nat.{min-le_left, min-le_right}
 use native.Mathlib.Omega.{arith}
 use native.Mathlib.Numerals.{add-one}
 use lib.ListN.{length, get_or, set, drop}
-use lib.Dec.{eqb, leb, ltb}
+use lib.Dec.{eqb, ltb}
 use borrow.Author.Tests.{ltb-true, lt-leb, eqb-true, eqb-false}
 use Rattle.slices.specs.Cells.{part, splice}
 use Rattle.slices.proofs.Splice.{piece}
@@ -22,10 +22,8 @@ use Rattle.target.specs.Luns.{works}
 use Rattle.target.specs.Place.{is_bare}
 use Rattle.target.specs.Sizes.{page_size}
 use Rattle.target.specs.Events.{bad_record}
-use Rattle.target.specs.declared.Row.{Row}
 use Rattle.target.specs.declared.Fill.{Fill}
 use Rattle.target.specs.declared.Column.{Column}
-use Rattle.target.specs.declared.Event.{Event}
 use Rattle.target.specs.declared.Target.{Target}
 use Rattle.target.specs.declared.Sequence.TheVariants.{Filling}
 use Rattle.target.specs.declared.Output.TheVariants as output

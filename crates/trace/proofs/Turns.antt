@@ -5,7 +5,6 @@ use mathlib.Core.Path.{◌≡◌, refl, sym, ap, ap₂, ◌∙◌}
 use mathlib.Core.Bool.{Bool, true, false}
 use mathlib.Core.List.{List, [], ◌∷◌}
 use Prim.Native.Nat.{ℕ, zero, suc, ◌+◌, ◌*◌, ◌/◌, ◌%◌, ◌≤◌, ◌<◌}
-use native.Mathlib.Numerals.{add-one}
 use native.Mathlib.Omega.{arith}
 use lib.ListN.{length, get_or, drop, drop_of_length-le}
 use lib.Dec.{eqb, leb, ltb}
@@ -14,7 +13,7 @@ use Rattle.target.specs.Pick.{pick}
 use Rattle.target.specs.declared.Event.{Event}
 use Rattle.target.specs.declared.Target.{Target}
 use Rattle.step.specs.Usable.{usable}
-use Rattle.step.specs.Step.{Buffers, Outcome, step_of}
+use Rattle.step.specs.Step.{Buffers, step_of}
 use Rattle.thm_kept.proofs.Kept.{step-usable}
 use Rattle.target.specs.declared.Reply.TheVariants.{Refused}
 use Rattle.target.specs.declared.Refusal.TheVariants.{BadRecord, NotUsable}

@@ -1,5 +1,5 @@
 -- Runs of events (document 01, "Events and replies as records"): one event after the other, each with its two-byte reply.
-use Rattle.std.specs.Prelude.{Bool, true, false, List, [], ◌∷◌, ℕ, ◌+◌, ◌*◌, ◌/◌, ◌%◌, length, set, eqb, ltb}
+use Rattle.std.specs.Prelude.{Bool, List, [], ◌∷◌, ℕ, ◌+◌, ◌*◌, ◌%◌, length, set, eqb, ltb}
 use Rattle.target.specs.Pick.{pick}
 use Rattle.target.specs.Numbers.{reply_first, reply_second}
 use Rattle.target.specs.declared.Event.{Event}

@@ -1,5 +1,5 @@
 -- The unread rest of the present output, as a part of a lent buffer (document 01, "The steps": "A data-out byte comes ..").
-use Rattle.std.specs.Prelude.{Bool, true, false, ◌&&◌, ◌||◌, List, [], ℕ, ◌+◌, ◌-◌, ◌*◌, ◌%◌, length, eqb, leb}
+use Rattle.std.specs.Prelude.{Bool, ◌&&◌, ◌||◌, List, [], ℕ, ◌+◌, ◌-◌, ◌*◌, ◌%◌, length, eqb, leb}
 use Rattle.slices.specs.Cells.{part}
 use Rattle.target.specs.Pick.{pick}
 use Rattle.target.specs.Luns.{works}

@@ -1,10 +1,9 @@
 -- `blocks::blank_blocks` meets its contract.
-use mathlib.Core.Path.{◌≡◌, refl}
-use Prim.Native.Nat.{◌-◌}
+use mathlib.Core.Path.{refl}
 use native.Mathlib.Omega.{arith}
 use Rattle.slices.proofs.Splice.{piece}
 use Rattle.target.proofs.Limits.{limits, blocks-all}
-use Rattle.blocks.proofs.Walk.{Walked, one-block-more, all-walked}
+use Rattle.blocks.proofs.Walk.{one-block-more, all-walked}
 use Rattle.blocks.proofs.blank_blocks.Goals as goal
 
 pub overflow_mul-first : goal.overflow_mul-first

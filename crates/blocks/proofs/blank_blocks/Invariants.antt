@@ -1,6 +1,6 @@
 -- `blocks::blank_blocks` meets its contract.
 use Prim.Native.Nat.{◌-◌}
-use Rattle.blocks.proofs.Walk.{Walked, one-block-more, all-walked}
+use Rattle.blocks.proofs.Walk.{Walked}
 use Rattle.blocks.proofs.blank_blocks.Given as goal
 
 abbrev pub invariant-loop-i : goal.invariant-loop-i

@@ -1,7 +1,7 @@
 -- `page_check::check_answer` meets its contract.
 use mathlib.Core.Path.{sym, ◌∙◌}
 use native.Mathlib.Omega.{arith}
-use borrow.Author.Tests.{eqb-true, not-false}
+use borrow.Author.Tests.{eqb-true}
 use lib.ListN.{length}
 use Rattle.page_check.proofs.Chosen.{other_length, chosen-0, chosen-1, chosen-2, none-good}
 use mathlib.Core.Path.{ap}

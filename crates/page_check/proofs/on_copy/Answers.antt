@@ -1,6 +1,5 @@
 -- `page_check::on_copy` meets its contract.
 use Rattle.page_check.specs.Check.{on_copy}
-use borrow.Author.Rules.{rules}
 use Rattle.page_check.proofs.on_copy.Goals as goal
 
 pub returns : goal.returns

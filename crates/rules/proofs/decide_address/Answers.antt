@@ -1,7 +1,6 @@
 -- `rules::decide_address` meets its contract.
 use mathlib.Core.Path.{sym}
 use Rattle.rules.proofs.ByKind.{address-verdict}
-use Rattle.rules.specs.Rules.{verdict}
 use Rattle.rules.proofs.decide_address.Goals as goal
 
 pub returns : goal.returns

@@ -1,11 +1,11 @@
 -- `slices::and_into` meets its contract: a sweep towards the ANDed list.
-use Prim.Native.Nat.{ℕ, ◌-◌, ◌<◌}
+use Prim.Native.Nat.{ℕ, ◌<◌}
 use native.Mathlib.Omega.{arith}
-use mathlib.Core.Path.{refl, sym, ap, ◌∙◌}
+use mathlib.Core.Path.{sym, ap, ◌∙◌}
 use lib.ListN.{length, get_or}
 use lib.Bits.{bit_and}
 use Rattle.slices.proofs.Anded.{length-and, get_d-and}
-use Rattle.slices.proofs.Sweep.{Sweep, sweep-none, sweep-more, sweep-end, sweep-read}
+use Rattle.slices.proofs.Sweep.{sweep-none, sweep-more, sweep-end, sweep-read}
 use Rattle.slices.proofs.and_into.Goals as goal
 
 pub loop-i-init : goal.loop-i-init

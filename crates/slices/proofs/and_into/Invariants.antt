@@ -1,7 +1,7 @@
 -- `slices::and_into` meets its contract: a sweep towards the ANDed list.
-use Prim.Native.Nat.{ℕ, ◌-◌, ◌<◌}
-use lib.ListN.{length, get_or}
-use Rattle.slices.proofs.Sweep.{Sweep, sweep-none, sweep-more, sweep-end, sweep-read}
+use Prim.Native.Nat.{◌-◌}
+use lib.ListN.{length}
+use Rattle.slices.proofs.Sweep.{Sweep}
 use Rattle.slices.specs.Cells.{and_bytes}
 use Rattle.slices.proofs.and_into.Given as goal
 

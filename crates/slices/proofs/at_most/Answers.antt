@@ -1,6 +1,5 @@
 -- `slices::at_most` meets its contract.
-use mathlib.Core.Path.{◌≡◌, refl, sym, ◌∙◌}
-use Prim.Native.Nat.{◌≤◌, ◌-◌}
+use mathlib.Core.Path.{sym, ◌∙◌}
 use Rattle.slices.proofs.Bounded.{passed, stopped, ended}
 use Rattle.slices.proofs.at_most.Goals as goal
 

@@ -1,6 +1,6 @@
 -- `slices::at_most` meets its contract.
-use mathlib.Core.Path.{◌≡◌, refl, sym, ◌∙◌}
-use Prim.Native.Nat.{◌≤◌, ◌-◌}
+use mathlib.Core.Path.{◌≡◌}
+use Prim.Native.Nat.{◌-◌}
 use lib.ListN.{length, drop}
 use Rattle.slices.specs.Cells.{all_at_most}
 use Rattle.slices.proofs.at_most.Given as goal

@@ -1,8 +1,7 @@
 -- `slices::copy` meets its contract: a sweep towards `src`.
-use Prim.Native.Nat.{◌-◌}
 use native.Mathlib.Omega.{arith}
 use mathlib.Core.Path.{refl, sym}
-use Rattle.slices.proofs.Sweep.{Sweep, sweep-none, sweep-more, sweep-end}
+use Rattle.slices.proofs.Sweep.{sweep-none, sweep-more, sweep-end}
 use Rattle.slices.proofs.copy.Goals as goal
 
 pub loop-i-init : goal.loop-i-init

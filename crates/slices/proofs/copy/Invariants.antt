@@ -1,7 +1,7 @@
 -- `slices::copy` meets its contract: a sweep towards `src`.
 use Prim.Native.Nat.{◌-◌}
 use lib.ListN.{length}
-use Rattle.slices.proofs.Sweep.{Sweep, sweep-none, sweep-more, sweep-end}
+use Rattle.slices.proofs.Sweep.{Sweep}
 use Rattle.slices.proofs.copy.Given as goal
 
 abbrev pub invariant-loop-i : goal.invariant-loop-i

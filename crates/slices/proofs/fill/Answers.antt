@@ -1,9 +1,9 @@
 -- `slices::fill` meets its contract: a sweep towards the list of v's.
-use Prim.Native.Nat.{◌-◌, ◌<◌}
+use Prim.Native.Nat.{◌<◌}
 use native.Mathlib.Omega.{arith}
 use mathlib.Core.Path.{sym}
-use lib.ListN.{length, replicate, length-replicate, get_or-replicate}
-use Rattle.slices.proofs.Sweep.{Sweep, sweep-none, sweep-more, sweep-end}
+use lib.ListN.{length, length-replicate, get_or-replicate}
+use Rattle.slices.proofs.Sweep.{sweep-none, sweep-more, sweep-end}
 use Rattle.slices.proofs.fill.Goals as goal
 
 pub loop-i-init : goal.loop-i-init

@@ -1,7 +1,7 @@
 -- `slices::fill` meets its contract: a sweep towards the list of v's.
-use Prim.Native.Nat.{◌-◌, ◌<◌}
-use lib.ListN.{length, replicate, length-replicate, get_or-replicate}
-use Rattle.slices.proofs.Sweep.{Sweep, sweep-none, sweep-more, sweep-end}
+use Prim.Native.Nat.{◌-◌}
+use lib.ListN.{length, replicate}
+use Rattle.slices.proofs.Sweep.{Sweep}
 use Rattle.slices.proofs.fill.Given as goal
 
 abbrev pub invariant-loop-i : goal.invariant-loop-i

@@ -1,6 +1,5 @@
 -- `slices::some_set` meets its contract.
-use mathlib.Core.Path.{◌≡◌, refl, sym, ◌∙◌}
-use Prim.Native.Nat.{◌≤◌, ◌-◌}
+use mathlib.Core.Path.{sym, ◌∙◌}
 use Rattle.slices.proofs.Bounded.{some-passed, some-ended}
 use Rattle.slices.proofs.some_set.Goals as goal
 

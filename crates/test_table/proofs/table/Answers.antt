@@ -1,5 +1,4 @@
 -- `test_table::table` is safe and ends. The measure is what is left of the text.
-use Prim.Native.Nat.{◌-◌}
 use native.Mathlib.Omega.{arith}
 use Rattle.test_table.proofs.table.Goals as goal
 

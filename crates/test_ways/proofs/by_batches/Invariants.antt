@@ -1,7 +1,7 @@
 -- `test_ways::by_batches` meets its contract.
-use mathlib.Core.Path.{◌≡◌, refl, ◌∙◌}
-use Prim.Native.Nat.{◌-◌, ◌≤◌, ◌<◌}
-use lib.ListN.{length, length-set}
+use mathlib.Core.Path.{◌≡◌}
+use Prim.Native.Nat.{◌-◌, ◌≤◌}
+use lib.ListN.{length}
 use Rattle.test_ways.proofs.by_batches.Given as goal
 
 abbrev pub invariant-loop-k : goal.invariant-loop-k

@@ -1,6 +1,5 @@
 -- `test_ways::lay_trace` meets its contract.
-use Prim.Native.Nat.{◌-◌, ◌≤◌, ◌<◌}
-use lib.ListN.{length, length-set}
+use lib.ListN.{length-set}
 use Rattle.test_ways.proofs.lay_trace.Goals as goal
 
 pub loop-i-preserved : goal.loop-i-preserved

@@ -1,7 +1,7 @@
 -- `test_ways::lay_trace` meets its contract.
-use mathlib.Core.Path.{◌≡◌, refl, ◌∙◌}
-use Prim.Native.Nat.{◌-◌, ◌≤◌, ◌<◌}
-use lib.ListN.{length, length-set}
+use mathlib.Core.Path.{◌≡◌}
+use Prim.Native.Nat.{◌-◌}
+use lib.ListN.{length}
 use Rattle.test_ways.proofs.lay_trace.Given as goal
 
 abbrev pub invariant-loop-i : goal.invariant-loop-i

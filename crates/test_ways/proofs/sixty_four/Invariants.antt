@@ -1,5 +1,5 @@
 -- `test_ways::sixty_four` meets its contract.
-use Prim.Native.Nat.{◌-◌, ◌≤◌, ◌<◌}
+use Prim.Native.Nat.{◌-◌, ◌≤◌}
 use Rattle.test_ways.proofs.sixty_four.Given as goal
 
 abbrev pub invariant-loop-i : goal.invariant-loop-i

@@ -1,9 +1,9 @@
 -- `trace::run_records` meets its contract.
 use mathlib.Core.Path.{◌≡◌, refl, sym, ap, ◌∙◌}
-use Prim.Native.Nat.{ℕ, ◌+◌, ◌*◌, ◌/◌, ◌-◌, ◌≤◌, ◌<◌}
+use Prim.Native.Nat.{ℕ, ◌+◌, ◌*◌, ◌/◌, ◌≤◌, ◌<◌}
 use native.Mathlib.Omega.{arith}
-use lib.ListN.{length, drop}
-use Rattle.trace.specs.Run.{Running, one_more, ran_all, events_of, stands_usable}
+use lib.ListN.{length}
+use Rattle.trace.specs.Run.{events_of, stands_usable}
 use Rattle.trace.proofs.Turns.{turned, stands-kept, events-count, left-none}
 use Rattle.trace.proofs.run_records.Invariants.{reached}
 use Rattle.trace.proofs.run_records.Goals as goal

@@ -1,10 +1,10 @@
 -- `trace::run_records` meets its contract.
-use mathlib.Core.Path.{◌≡◌, refl, sym, ap, ◌∙◌}
+use mathlib.Core.Path.{◌≡◌}
 use mathlib.Core.List.{List}
-use Prim.Native.Nat.{ℕ, ◌+◌, ◌*◌, ◌/◌, ◌-◌, ◌≤◌, ◌<◌}
+use Prim.Native.Nat.{ℕ, ◌/◌, ◌-◌, ◌≤◌}
 use lib.ListN.{length, drop}
 use Rattle.target.specs.declared.Target.{Target}
-use Rattle.trace.specs.Run.{Running, one_more, ran_all, events_of, stands_usable}
+use Rattle.trace.specs.Run.{Running, ran_all, events_of, stands_usable}
 use Rattle.trace.proofs.run_records.Given as goal
 
 -- the values that the loop carries, as a run

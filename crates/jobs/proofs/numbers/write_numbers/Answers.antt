@@ -1,5 +1,5 @@
 -- `jobs::numbers::write_numbers` meets its contract.
-use mathlib.Core.Path.{refl, sym, ◌∙◌}
+use mathlib.Core.Path.{sym, ◌∙◌}
 use Rattle.jobs.proofs.numbers.write_numbers.Goals as goal
 
 pub returns-in-Nothing : goal.returns-in-Nothing

@@ -1,7 +1,6 @@
 -- `jobs::reading::first_misfit` meets its contract.
 use native.Mathlib.Omega.{arith}
-use Prim.Native.Nat.{◌-◌}
-use Rattle.jobs.proofs.Walks.{Walking, walking, walked_end, walked-misfit, walked-ahead, walked_on}
+use Rattle.jobs.proofs.Walks.{walking, walked_end, walked-misfit, walked-ahead, walked_on}
 use Rattle.jobs.proofs.reading.first_misfit.Goals as goal
 
 pub loop-p-init : goal.loop-p-init

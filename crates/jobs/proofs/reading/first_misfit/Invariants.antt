@@ -1,7 +1,7 @@
 -- `jobs::reading::first_misfit` meets its contract.
 use Prim.Native.Nat.{◌-◌}
 use lib.ListN.{length}
-use Rattle.jobs.proofs.Walks.{Walking, walking, walked_end, walked-misfit, walked-ahead, walked_on}
+use Rattle.jobs.proofs.Walks.{Walking}
 use Rattle.jobs.proofs.reading.first_misfit.Given as goal
 
 abbrev pub invariant-loop-p : goal.invariant-loop-p

@@ -1,5 +1,5 @@
 -- `jobs::reading::is_command` meets its contract.
-use mathlib.Core.Path.{refl, sym, ◌∙◌}
+use mathlib.Core.Path.{sym}
 use Rattle.jobs.proofs.Runs.{command-here, command-past, never}
 use Rattle.jobs.proofs.reading.is_command.Goals as goal
 

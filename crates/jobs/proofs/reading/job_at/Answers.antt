@@ -1,9 +1,9 @@
 -- `jobs::reading::job_at` meets its contract.
-use mathlib.Core.Path.{refl, sym, ◌∙◌}
+use mathlib.Core.Path.{sym}
 use Prim.Native.Nat.{◌/◌, ◌<◌}
 use lib.ListN.{length}
 use lib.Arith.{lt_of_le-ne}
-use Rattle.jobs.proofs.Walks.{Begins, read, read_out, program, erase, status, job-past, job-even, job-odd, job-none, job-made}
+use Rattle.jobs.proofs.Walks.{read, read_out, program, erase, status, job-past, job-even, job-odd, job-none, job-made}
 use Rattle.jobs.proofs.reading.job_at.Goals as goal
 
 pub returns-then-n-at : goal.returns-then-n-at

@@ -1,5 +1,5 @@
 -- `jobs::reading::reach` meets its contract.
-use mathlib.Core.Path.{refl, sym, ◌∙◌}
+use mathlib.Core.Path.{sym}
 use Prim.Native.Nat.{◌*◌}
 use lib.ListN.{drop}
 use Rattle.jobs.proofs.Walks.{through-none}

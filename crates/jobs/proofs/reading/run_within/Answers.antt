@@ -1,7 +1,6 @@
 -- `jobs::reading::run_within` meets its contract.
 use mathlib.Core.Path.{sym, ◌∙◌}
-use Prim.Native.Nat.{◌-◌}
-use Rattle.jobs.proofs.Runs.{Counting, counting-none, counting_more, counting-stop, counting-end}
+use Rattle.jobs.proofs.Runs.{counting-none, counting_more, counting-stop, counting-end}
 use Rattle.jobs.proofs.reading.run_within.Goals as goal
 
 pub loop-k-init : goal.loop-k-init

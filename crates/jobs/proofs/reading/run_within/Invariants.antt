@@ -1,6 +1,6 @@
 -- `jobs::reading::run_within` meets its contract.
 use Prim.Native.Nat.{◌-◌}
-use Rattle.jobs.proofs.Runs.{Counting, counting-none, counting_more, counting-stop, counting-end}
+use Rattle.jobs.proofs.Runs.{Counting}
 use Rattle.jobs.proofs.reading.run_within.Given as goal
 
 abbrev pub invariant-loop-k : goal.invariant-loop-k

@@ -1,6 +1,6 @@
 -- `jobs::reading::through_closed` meets its contract.
 use native.Mathlib.Omega.{arith}
-use mathlib.Core.Path.{refl, sym, ◌∙◌}
+use mathlib.Core.Path.{sym, ◌∙◌}
 use Rattle.jobs.proofs.Walks.{short-of-addresses, not-closed, closed}
 use Rattle.jobs.proofs.reading.through_closed.Goals as goal
 

@@ -1,9 +1,8 @@
 -- `jobs::writing::put_data` meets its contract.
-use Prim.Native.Nat.{◌-◌}
 use native.Mathlib.Omega.{arith}
 use mathlib.Core.Path.{refl}
-use lib.ListN.{length, length-set}
-use Rattle.jobs.proofs.Room.{Data, data-turn, data-end}
+use lib.ListN.{length-set}
+use Rattle.jobs.proofs.Room.{data-turn, data-end}
 use Rattle.jobs.proofs.writing.put_data.Goals as goal
 
 pub loop-k-init : goal.loop-k-init

@@ -1,7 +1,7 @@
 -- `jobs::writing::put_data` meets its contract.
 use Prim.Native.Nat.{◌-◌}
-use lib.ListN.{length, length-set}
-use Rattle.jobs.proofs.Room.{Data, data-turn, data-end}
+use lib.ListN.{length}
+use Rattle.jobs.proofs.Room.{Data}
 use Rattle.jobs.proofs.writing.put_data.Given as goal
 
 abbrev pub invariant-loop-k : goal.invariant-loop-k

@@ -1,9 +1,8 @@
 -- `jobs::writing::put_outs` meets its contract.
-use Prim.Native.Nat.{◌-◌}
 use native.Mathlib.Omega.{arith}
 use mathlib.Core.Path.{refl}
-use lib.ListN.{length, length-set}
-use Rattle.jobs.proofs.Room.{Outs, outs-turn, outs-end}
+use lib.ListN.{length-set}
+use Rattle.jobs.proofs.Room.{outs-turn, outs-end}
 use Rattle.jobs.proofs.writing.put_outs.Goals as goal
 
 pub loop-k-init : goal.loop-k-init

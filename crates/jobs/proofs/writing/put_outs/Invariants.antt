@@ -1,6 +1,6 @@
 -- `jobs::writing::put_outs` meets its contract.
 use Prim.Native.Nat.{◌-◌}
-use Rattle.jobs.proofs.Room.{Outs, outs-turn, outs-end}
+use Rattle.jobs.proofs.Room.{Outs}
 use Rattle.jobs.proofs.writing.put_outs.Given as goal
 
 abbrev pub invariant-loop-k : goal.invariant-loop-k

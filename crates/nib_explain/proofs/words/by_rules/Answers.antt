@@ -1,8 +1,7 @@
 -- `nib_explain::words::by_rules` meets its contract.
-use Rattle.nib_explain.proofs.Lists.{Ruling, ruling-turn, ruling-end}
+use Rattle.nib_explain.proofs.Lists.{ruling-turn, ruling-end}
 use Rattle.nib_explain.specs.Words.{by_rules}
 use mathlib.Core.Path.{refl}
-use Prim.Native.Nat.{◌-◌}
 use Rattle.nib_explain.proofs.words.by_rules.Goals as goal
 
 pub loop-i-init : goal.loop-i-init

@@ -1,5 +1,5 @@
 -- `nib_explain::words::by_rules` meets its contract.
-use Rattle.nib_explain.proofs.Lists.{Ruling, ruling-turn, ruling-end}
+use Rattle.nib_explain.proofs.Lists.{Ruling}
 use lib.ListN.{length}
 use Prim.Native.Nat.{◌-◌}
 use Rattle.nib_explain.proofs.words.by_rules.Given as goal

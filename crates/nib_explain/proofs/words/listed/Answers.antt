@@ -1,8 +1,7 @@
 -- `nib_explain::words::listed` meets its contract.
-use Rattle.nib_explain.proofs.Lists.{Listing, listing-turn, listing-end}
+use Rattle.nib_explain.proofs.Lists.{listing-turn, listing-end}
 use mathlib.Core.Path.{refl}
 use native.Mathlib.Omega.{arith}
-use Prim.Native.Nat.{◌-◌}
 use Rattle.nib_explain.proofs.words.listed.Goals as goal
 
 pub loop-i-init : goal.loop-i-init

@@ -1,5 +1,5 @@
 -- `nib_explain::words::listed` meets its contract.
-use Rattle.nib_explain.proofs.Lists.{Listing, listing-turn, listing-end}
+use Rattle.nib_explain.proofs.Lists.{Listing}
 use lib.ListN.{length}
 use Prim.Native.Nat.{◌-◌}
 use Rattle.nib_explain.proofs.words.listed.Given as goal

@@ -1,7 +1,6 @@
 -- `nib_explain::words::tally_words` meets its contract.
 use Rattle.nib_words.proofs.Desks.{then}
 use Rattle.nib_explain.specs.Words.{tally_words}
-use borrow.Author.Rules.{rules}
 use Rattle.nib_explain.proofs.words.tally_words.Goals as goal
 
 pub returns : goal.returns

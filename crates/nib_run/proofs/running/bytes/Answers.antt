@@ -1,5 +1,4 @@
 -- `nib_run::running::bytes` is safe and ends.
-use Prim.Native.Nat.{◌≤◌, ◌-◌}
 use native.Mathlib.Omega.{arith}
 use Rattle.nib_run.proofs.running.bytes.Goals as goal
 

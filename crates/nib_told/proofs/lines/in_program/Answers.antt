@@ -1,6 +1,6 @@
 -- `nib_told::lines::in_program` meets its contract. The loop's invariant: no command stands from `i` on.
 use mathlib.Core.Path.{◌≡◌, refl, sym, ◌∙◌}
-use Prim.Native.Nat.{suc, ◌-◌, ◌≤◌}
+use Prim.Native.Nat.{suc, ◌-◌}
 use native.Mathlib.Omega.{arith}
 use Rattle.nib_told.proofs.Programs.{behind-start, behind-command, behind-other}
 use Rattle.nib_told.proofs.lines.in_program.Goals as goal

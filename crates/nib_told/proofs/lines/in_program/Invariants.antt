@@ -1,6 +1,6 @@
 -- `nib_told::lines::in_program` meets its contract. The loop's invariant: no command stands from `i` on.
-use mathlib.Core.Path.{◌≡◌, refl, sym, ◌∙◌}
-use Prim.Native.Nat.{suc, ◌-◌, ◌≤◌}
+use mathlib.Core.Path.{◌≡◌}
+use Prim.Native.Nat.{◌≤◌}
 use Rattle.nib_told.specs.Lines.{in_program}
 use Rattle.nib_told.proofs.lines.in_program.Given as goal
 

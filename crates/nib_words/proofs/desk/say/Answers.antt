@@ -1,8 +1,7 @@
 -- `nib_words::desk::say` meets its contract.
-use Prim.Native.Nat.{◌-◌}
 use native.Mathlib.Omega.{arith}
 use mathlib.Core.Path.{refl}
-use Rattle.nib_words.proofs.Desks.{Saying, saying-turn, saying-end}
+use Rattle.nib_words.proofs.Desks.{saying-turn, saying-end}
 use Rattle.nib_words.proofs.desk.say.Goals as goal
 
 pub loop-i-init : goal.loop-i-init

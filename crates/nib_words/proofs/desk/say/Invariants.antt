@@ -1,7 +1,7 @@
 -- `nib_words::desk::say` meets its contract.
 use Prim.Native.Nat.{◌-◌}
 use lib.ListN.{length}
-use Rattle.nib_words.proofs.Desks.{Saying, saying-turn, saying-end}
+use Rattle.nib_words.proofs.Desks.{Saying}
 use Rattle.nib_words.proofs.desk.say.Given as goal
 
 abbrev pub invariant-loop-i : goal.invariant-loop-i

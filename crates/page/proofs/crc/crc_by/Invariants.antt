@@ -1,9 +1,9 @@
 -- `page::crc::crc_by` meets its contract. The invariant: the CRC from r over the bytes left is the CRC of all.
-use mathlib.Core.Path.{◌≡◌, refl, sym, ◌∙◌}
+use mathlib.Core.Path.{◌≡◌}
 use mathlib.Core.List.{List}
-use Prim.Native.Nat.{ℕ, ◌+◌, ◌-◌, ◌≤◌, ◌<◌}
-use lib.ListN.{length, get_or, drop, drop_of_length-le}
-use Rattle.page.specs.Crc.{crc_byte, crc_from, crc_of}
+use Prim.Native.Nat.{ℕ, ◌-◌, ◌≤◌}
+use lib.ListN.{length, drop}
+use Rattle.page.specs.Crc.{crc_from, crc_of}
 use Rattle.page.proofs.crc.crc_by.Given as goal
 
 pub record Inv (s : List ℕ) (r i : ℕ) : Type 0 where

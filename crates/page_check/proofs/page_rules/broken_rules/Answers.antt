@@ -1,7 +1,6 @@
 -- `page_check::page_rules::broken_rules` meets its contract.
 use Rattle.page_check.specs.Check.{data_broken, pages_broken, luns_broken, multiplier_broken, programs_broken, broken_rules}
 use Rattle.page_check.proofs.Listing.{five}
-use borrow.Author.Rules.{rules}
 use Rattle.page_check.proofs.page_rules.broken_rules.Goals as goal
 
 pub returns : goal.returns

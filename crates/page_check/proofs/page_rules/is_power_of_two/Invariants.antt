@@ -1,6 +1,6 @@
 -- `page_check::page_rules::is_power_of_two` meets its contract. The invariant: what is left to look at below k decides.
-use mathlib.Core.Path.{◌≡◌, refl, sym, ◌∙◌}
-use Prim.Native.Nat.{ℕ, zero, suc, ◌-◌, ◌*◌, ◌%◌, ◌^◌, ◌≤◌, ◌<◌}
+use mathlib.Core.Path.{◌≡◌}
+use Prim.Native.Nat.{ℕ, ◌≤◌}
 use Rattle.page_check.specs.Check.{power_below}
 use Rattle.page_check.proofs.page_rules.is_power_of_two.Given as goal
 

@@ -1,5 +1,4 @@
 -- `test_judge_lines::lines::all_traces` is safe and ends.
-use Prim.Native.Nat.{◌-◌}
 use native.Mathlib.Omega.{arith}
 use Rattle.test_judge_lines.proofs.lines.all_traces.Goals as goal
 

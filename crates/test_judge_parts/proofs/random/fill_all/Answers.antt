@@ -1,6 +1,5 @@
 -- `test_judge_parts::random::fill_all` is safe and ends.
-use Prim.Native.Nat.{◌-◌}
-use lib.ListN.{length, length-set}
+use lib.ListN.{length-set}
 use Rattle.test_judge_parts.proofs.random.fill_all.Goals as goal
 
 pub loop-i-preserved : goal.loop-i-preserved

@@ -1,7 +1,7 @@
 -- `test_judge_parts::random::fill_bytes` is safe and ends.
-use mathlib.Core.Path.{◌≡◌, refl}
+use mathlib.Core.Path.{◌≡◌}
 use Prim.Native.Nat.{◌-◌}
-use lib.ListN.{length, length-set}
+use lib.ListN.{length}
 use Rattle.test_judge_parts.proofs.random.fill_bytes.Given as goal
 
 abbrev pub invariant-loop-i : goal.invariant-loop-i

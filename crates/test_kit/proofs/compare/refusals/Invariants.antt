@@ -1,5 +1,5 @@
 -- `test_kit::compare::refusals` is safe and ends.
-use Rattle.std.proofs.Common.{◌-◌, length, arith}
+use Rattle.std.proofs.Common.{◌-◌, length}
 use Rattle.test_kit.proofs.compare.refusals.Given as goal
 
 abbrev pub decreases-loop-i : goal.decreases-loop-i

@@ -1,5 +1,5 @@
 -- `test_kit::files::from_hex` is safe and ends.
-use Rattle.std.proofs.Common.{◌≡◌, ◌-◌, ◌≤◌, length, refl, arith}
+use Rattle.std.proofs.Common.{refl, arith}
 use Rattle.test_kit.proofs.files.from_hex.Goals as goal
 
 pub loop-i-init : goal.loop-i-init

@@ -1,5 +1,5 @@
 -- `test_kit::files::from_hex` is safe and ends.
-use Rattle.std.proofs.Common.{◌≡◌, ◌-◌, ◌≤◌, length, refl, arith}
+use Rattle.std.proofs.Common.{◌≡◌, ◌-◌, ◌≤◌, length}
 use Rattle.test_kit.proofs.files.from_hex.Given as goal
 
 abbrev pub invariant-loop-i : goal.invariant-loop-i

@@ -1,5 +1,5 @@
 -- `test_kit::numbers::times` is safe: the product fits, by the law at 32 bits.
-use Rattle.std.proofs.Common.{arith, rules}
+use Rattle.std.proofs.Common.{arith}
 use Rattle.test_kit.proofs.Product.{below}
 use Rattle.test_kit.proofs.numbers.times.Goals as goal
 

@@ -1,6 +1,5 @@
 -- `test_pages_powers::parts::lay` is safe and ends. The slice keeps its length, and the measure is what is left of it.
-use Prim.Native.Nat.{◌-◌}
-use lib.ListN.{length, length-set}
+use lib.ListN.{length-set}
 use Rattle.test_pages_powers.proofs.parts.lay.Goals as goal
 
 pub loop-i-preserved : goal.loop-i-preserved

@@ -1,7 +1,7 @@
 -- `test_pages_powers::parts::lay` is safe and ends. The slice keeps its length, and the measure is what is left of it.
-use mathlib.Core.Path.{◌≡◌, refl}
+use mathlib.Core.Path.{◌≡◌}
 use Prim.Native.Nat.{◌-◌}
-use lib.ListN.{length, length-set}
+use lib.ListN.{length}
 use Rattle.test_pages_powers.proofs.parts.lay.Given as goal
 
 abbrev pub invariant-loop-i : goal.invariant-loop-i

@@ -1,6 +1,5 @@
 -- `test_table_read::numbers::lay` is safe and ends.
-use Prim.Native.Nat.{◌-◌}
-use lib.ListN.{length, length-set}
+use lib.ListN.{length-set}
 use Rattle.test_table_read.proofs.numbers.lay.Goals as goal
 
 pub loop-i-preserved : goal.loop-i-preserved

@@ -1,7 +1,7 @@
 -- `test_table_read::numbers::lay` is safe and ends.
-use mathlib.Core.Path.{◌≡◌, refl}
+use mathlib.Core.Path.{◌≡◌}
 use Prim.Native.Nat.{◌-◌}
-use lib.ListN.{length, length-set}
+use lib.ListN.{length}
 use Rattle.test_table_read.proofs.numbers.lay.Given as goal
 
 abbrev pub invariant-loop-i : goal.invariant-loop-i

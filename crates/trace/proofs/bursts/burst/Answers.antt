@@ -1,5 +1,5 @@
 -- `trace::bursts::burst` meets its contract.
-use mathlib.Core.Path.{◌≡◌, refl, sym, ap, ◌∙◌}
+use mathlib.Core.Path.{sym, ◌∙◌}
 use borrow.Author.Tests.{not-true}
 use Rattle.target.proofs.Both.{both}
 use Rattle.trace.proofs.Runs.{nothing-on}

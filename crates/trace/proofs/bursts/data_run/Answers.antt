@@ -1,7 +1,7 @@
 -- `trace::bursts::data_run` meets its contract.
-use mathlib.Core.Path.{◌≡◌, refl, sym, ap, ◌∙◌}
-use Prim.Native.Nat.{ℕ, ◌+◌, ◌-◌, ◌≤◌, ◌<◌}
-use Rattle.trace.specs.Data.{is_data, AllData}
+use mathlib.Core.Path.{sym, ◌∙◌}
+use Prim.Native.Nat.{◌+◌}
+use Rattle.trace.specs.Data.{is_data}
 use Rattle.trace.proofs.Runs.{none, one_more_lem, both-on}
 use native.Mathlib.Omega.{arith}
 use Rattle.trace.proofs.bursts.data_run.Goals as goal

@@ -1,6 +1,6 @@
 -- `trace::bursts::data_run` meets its contract.
-use Prim.Native.Nat.{ℕ, ◌+◌, ◌-◌, ◌≤◌, ◌<◌}
-use Rattle.trace.specs.Data.{is_data, AllData}
+use Prim.Native.Nat.{◌-◌, ◌≤◌}
+use Rattle.trace.specs.Data.{AllData}
 use Rattle.trace.proofs.bursts.data_run.Given as goal
 
 abbrev pub invariant-loop-k : goal.invariant-loop-k

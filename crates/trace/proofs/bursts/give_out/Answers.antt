@@ -1,6 +1,6 @@
 -- `trace::bursts::give_out` meets its contract.
-use mathlib.Core.Path.{◌≡◌, refl, sym, ap, ◌∙◌}
-use Prim.Native.Nat.{ℕ, ◌+◌, ◌-◌, ◌≤◌, ◌<◌}
+use mathlib.Core.Path.{◌≡◌, refl, ap, ◌∙◌}
+use Prim.Native.Nat.{ℕ}
 use Rattle.trace.proofs.Runs.{gave_one}
 use native.Mathlib.Omega.{arith}
 use Rattle.trace.specs.Data.{given_out}

@@ -1,6 +1,6 @@
 -- `trace::bursts::give_out` meets its contract.
-use mathlib.Core.Path.{◌≡◌, refl, sym, ap, ◌∙◌}
-use Prim.Native.Nat.{ℕ, ◌+◌, ◌-◌, ◌≤◌, ◌<◌}
+use mathlib.Core.Path.{◌≡◌}
+use Prim.Native.Nat.{◌-◌, ◌≤◌}
 use lib.ListN.{length}
 use Rattle.trace.specs.Data.{given_out}
 use Rattle.trace.proofs.bursts.give_out.Given as goal

@@ -1,7 +1,7 @@
 -- `trace::bursts::take_in` meets its contract.
-use mathlib.Core.Path.{◌≡◌, refl, sym, ap, ◌∙◌}
-use Prim.Native.Nat.{ℕ, ◌+◌, ◌-◌, ◌≤◌, ◌<◌}
-use Rattle.trace.specs.Data.{Taking, taken_in}
+use mathlib.Core.Path.{◌≡◌, refl, ap, ◌∙◌}
+use Prim.Native.Nat.{ℕ}
+use Rattle.trace.specs.Data.{taken_in}
 use Rattle.trace.proofs.Runs.{took_one_lem}
 use native.Mathlib.Omega.{arith}
 use Rattle.trace.specs.Data.{taken_in}
