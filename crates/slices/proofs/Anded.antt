@@ -14,9 +14,9 @@ length-and [] ys = refl
 length-and (x ∷ xs) [] = refl
 length-and (x ∷ xs) (y ∷ ys) = ap suc (length-and xs ys)
 
-pub get_d-and : (xs ys : List ℕ) (i : ℕ) → i < length xs → i < length ys → get_or (and_bytes xs ys) i 0 ≡ bit_and (get_or xs i 0) (get_or ys i 0)
+pub get_or-and : (xs ys : List ℕ) (i : ℕ) → i < length xs → i < length ys → get_or (and_bytes xs ys) i 0 ≡ bit_and (get_or xs i 0) (get_or ys i 0)
 unfolding and_bytes
-get_d-and [] ys i h k = absurd (not-suc-le-zero h)
-get_d-and (x ∷ xs) [] i h k = absurd (not-suc-le-zero k)
-get_d-and (x ∷ xs) (y ∷ ys) zero h k = refl
-get_d-and (x ∷ xs) (y ∷ ys) (suc i) h k = get_d-and xs ys i (le_of_suc-le-suc h) (le_of_suc-le-suc k)
+get_or-and [] ys i h k = absurd (not-suc-le-zero h)
+get_or-and (x ∷ xs) [] i h k = absurd (not-suc-le-zero k)
+get_or-and (x ∷ xs) (y ∷ ys) zero h k = refl
+get_or-and (x ∷ xs) (y ∷ ys) (suc i) h k = get_or-and xs ys i (le_of_suc-le-suc h) (le_of_suc-le-suc k)

@@ -1,7 +1,7 @@
 -- Two lists with the same bytes in one stretch: what is read, spliced in or stored within the stretch is the same in both.
 --     parts-alike      a part that lies within it
 --     splices-alike    the stretch after a splice within it
---     get_d-alike       a byte of it
+--     get_or-alike      a byte of it
 --     set-splice       a store is a splice of one byte
 --     pieces-ext       lists cut into pieces of one size are equal where the pieces are
 -- Assumes nothing.
@@ -80,8 +80,8 @@ byte-of-part [] (suc i) = refl
 byte-of-part (x ∷ xs) zero = refl
 byte-of-part (x ∷ xs) (suc i) = byte-of-part xs i
 
-pub get_d-alike : (xs ys : List ℕ) (b k : ℕ) → part xs b k ≡ part ys b k → (i : ℕ) → i < k → get_or xs (b + i) 0 ≡ get_or ys (b + i) 0
-get_d-alike xs ys b k agree i within =
+pub get_or-alike : (xs ys : List ℕ) (b k : ℕ) → part xs b k ≡ part ys b k → (i : ℕ) → i < k → get_or xs (b + i) 0 ≡ get_or ys (b + i) 0
+get_or-alike xs ys b k agree i within =
     sym (byte-of-part xs (b + i))
     ∙ ap (λ (l : List ℕ). get_or l 0 0) (parts-alike xs ys b k agree (b + i) 1 (omega arith) (omega arith))
     ∙ byte-of-part ys (b + i)

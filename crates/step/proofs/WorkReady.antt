@@ -31,7 +31,7 @@ use Rattle.target.specs.declared.commands.FirstFound.TheVariants as first
 use Rattle.target.specs.declared.commands.SecondFound.{SecondFound}
 use Rattle.target.specs.declared.commands.SecondFound.TheVariants as second
 use Rattle.target.specs.declared.views.Given.{Given}
-use Rattle.target.specs.declared.views.Given.TheVariants as goal
+use Rattle.target.specs.declared.views.Given.TheVariants as given
 use Rattle.target.specs.declared.views.Ender.{Ender}
 use Rattle.target.specs.declared.views.Ender.TheVariants as ender
 use Rattle.target.specs.declared.Verdict.TheVariants.{Accepted}
@@ -223,16 +223,16 @@ module _ (g : Geometry) (counts : List ℕ) where
 
   address-ready : (clear : Bool) (k : Given) → beyond g k ≡ false → Ready g (address_work g clear k) counts
   unfolding Ready
-  address-ready clear goal.Nothing h = tt
-  address-ready clear (goal.Column k) h = tt
-  address-ready clear (goal.Row k) h =
+  address-ready clear given.Nothing h = tt
+  address-ready clear (given.Column k) h = tt
+  address-ready clear (given.Row k) h =
       ready-pick (clears_register k.first && clear) (work.ClearOne (lun_of g k.row)) work.Nothing
       (λ p. row-lun g k.row
       (looked-row (looks_of k.first) k.row
       (implied (clears_register k.first) (is_page (looks_of k.first)) (clears-page k.first) (both (clears_register k.first) clear p).0)
       (not-false (row_fits g k.first k.row) h)))
       (λ _. tt)
-  address-ready clear (goal.Single k) h = tt
+  address-ready clear (given.Single k) h = tt
 
   -- a data-in byte that is not past the end has its place
   data-ready : (s : Sequence) (v : ℕ) → sequence_sound g s ≡ true → data_ended g (taking s) ≡ false → Ready g (data_work g (taking s) v) counts

@@ -33,7 +33,7 @@ use Rattle.target.specs.declared.commands.FirstFound.TheVariants as first
 use Rattle.target.specs.declared.views.Ender.{Ender}
 use Rattle.target.specs.declared.views.Ender.TheVariants as ender
 use Rattle.target.specs.declared.views.Given.{Given}
-use Rattle.target.specs.declared.views.Given.TheVariants as goal
+use Rattle.target.specs.declared.views.Given.TheVariants as given
 use Rattle.target.specs.declared.views.Taker.{Taker}
 use Rattle.target.specs.declared.views.Taker.TheVariants as taker
 use Rattle.target.proofs.Limits.{limits}
@@ -118,12 +118,12 @@ module _ (g : Geometry) (words : Words) (flags : List ℕ) (luns : List Lun) (co
   -- an address: a row may close a copyback, and no count moves
   address-counts : (clear : Bool) (k : Given) → counts_after g (address_work g clear k) counts ≡ counts
   unfolding counts_after
-  address-counts clear goal.Nothing = refl
-  address-counts clear (goal.Column k) = refl
-  address-counts clear (goal.Row k) =
+  address-counts clear given.Nothing = refl
+  address-counts clear (given.Column k) = refl
+  address-counts clear (given.Row k) =
       by-pick (λ (w : Work). counts_after g w counts ≡ counts) (clears_register k.first && clear) (work.ClearOne (lun_of g k.row)) work.Nothing
       (λ _. refl) (λ _. refl)
-  address-counts clear (goal.Single k) = refl
+  address-counts clear (given.Single k) = refl
 
   data-counts : (k : Taker) (v : ℕ) → counts_after g (data_work g k v) counts ≡ counts
   unfolding counts_after
@@ -170,10 +170,10 @@ module _ (g : Geometry) (luns : List Lun) (all : length luns ≡ 4) where
   ended-four (ender.By k) found = by-pick Four (second_row k.second).starts _ _ (λ _. stored (lun_of g k.row) _) (λ _. all)
 
   addressed-four : (k : Given) → Four (addressed_luns g luns k)
-  addressed-four goal.Nothing = all
-  addressed-four (goal.Column k) = all
-  addressed-four (goal.Row k) = by-pick Four (closes_copyback k.first) _ _ (λ _. stored (lun_of g k.row) _) (λ _. all)
-  addressed-four (goal.Single k) = all
+  addressed-four given.Nothing = all
+  addressed-four (given.Column k) = all
+  addressed-four (given.Row k) = by-pick Four (closes_copyback k.first) _ _ (λ _. stored (lun_of g k.row) _) (λ _. all)
+  addressed-four (given.Single k) = all
 
   pub still-four : (s : Sequence) (e : Event) (found : Findings) → Four (luns_after g luns s e found)
   unfolding luns_after

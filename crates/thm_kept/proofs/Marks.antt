@@ -22,7 +22,7 @@ use Rattle.target.specs.declared.Geometry.{Geometry}
 use Rattle.target.specs.declared.Findings.{Findings}
 use Rattle.target.specs.declared.Sequence.{Sequence}
 use Rattle.target.specs.declared.views.Given.{Given}
-use Rattle.target.specs.declared.views.Given.TheVariants as goal
+use Rattle.target.specs.declared.views.Given.TheVariants as given
 use Rattle.target.specs.declared.views.Ender.{Ender}
 use Rattle.target.specs.declared.views.Ender.TheVariants as ender
 use Rattle.target.specs.declared.commands.Act.{Act}
@@ -132,12 +132,12 @@ module _ (g : Geometry) where
   -- a row that closes a copyback names a LUN that exists
   addressed-sound : (luns : List Lun) (x : Given) → g.luns ≤ 4 → Completes g x → beyond g x ≡ false → marks_sound g luns ≡ true
       → marks_sound g (addressed_luns g luns x) ≡ true
-  addressed-sound luns goal.Nothing four h near k = k
-  addressed-sound luns (goal.Column c) four h near k = k
-  addressed-sound luns (goal.Row r) four h near k =
+  addressed-sound luns given.Nothing four h near k = k
+  addressed-sound luns (given.Column c) four h near k = k
+  addressed-sound luns (given.Row r) four h near k =
       let named = row_named g r.first r.row h (not-false (row_fits g r.first r.row) near) in
       by-pick (λ (x : List Lun). marks_sound g x ≡ true) (closes_copyback r.first) _ _ (λ _. marks-set luns _ _ named (marks-within luns _ named four k) k) (λ _. k)
-  addressed-sound luns (goal.Single v) four h near k = k
+  addressed-sound luns (given.Single v) four h near k = k
 
   pub marks-kept : (luns : List Lun) (s : Sequence) (e : Event) (says : Findings) → g.luns ≤ 4 → sequence_sound g s ≡ true → marks_sound g luns ≡ true
       → (eqb e.kind 1 ≡ true → beyond g (completed s e.value) ≡ false)

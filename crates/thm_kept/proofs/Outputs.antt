@@ -24,7 +24,7 @@ use Rattle.target.specs.declared.commands.FirstFound.{FirstFound}
 use Rattle.target.specs.declared.commands.FirstFound.TheVariants as first
 use Rattle.target.specs.declared.views.RowGiven.{RowGiven}
 use Rattle.target.specs.declared.views.Given.{Given}
-use Rattle.target.specs.declared.views.Given.TheVariants as goal
+use Rattle.target.specs.declared.views.Given.TheVariants as given
 use Rattle.target.specs.declared.views.Ended.{Ended}
 use Rattle.target.specs.declared.views.Ender.{Ender}
 use Rattle.target.specs.declared.views.Ender.TheVariants as ender
@@ -76,21 +76,21 @@ module _ (g : Geometry) where
     -- An address cycle.
 
     -- a row that is whole and in range names a LUN that exists
-    given-lun : (k : RowGiven) → takes_row k.first ≡ true → beyond g (goal.Row k) ≡ false → lun_of g k.row < g.luns
+    given-lun : (k : RowGiven) → takes_row k.first ≡ true → beyond g (given.Row k) ≡ false → lun_of g k.row < g.luns
     given-lun k t near = row_named g k.first k.row t (not-false (row_fits g k.first k.row) near)
 
     addressed-sound : (k : Given) (o : Output) → Completes g k → beyond g k ≡ false → Sound o → Sound (addressed_output g k o)
-    addressed-sound goal.Nothing o h near s = s
-    addressed-sound (goal.Column k) o h near s = s
-    addressed-sound (goal.Row k) o h near s = shown-sound (then_of k.first) (lun_of g k.row) 0 o (given-lun k h near) s
-    addressed-sound (goal.Single k) o h near s = shown-sound (then_of k.first) 0 k.value o (omega (arith, one)) s
+    addressed-sound given.Nothing o h near s = s
+    addressed-sound (given.Column k) o h near s = s
+    addressed-sound (given.Row k) o h near s = shown-sound (then_of k.first) (lun_of g k.row) 0 o (given-lun k h near) s
+    addressed-sound (given.Single k) o h near s = shown-sound (then_of k.first) 0 k.value o (omega (arith, one)) s
 
     -- it selects that LUN
     selects : (k : Given) → Completes g k → beyond g k ≡ false → row_selects g selected k < g.luns
-    selects goal.Nothing h near = one
-    selects (goal.Column k) h near = one
-    selects (goal.Row k) h near = given-lun k h near
-    selects (goal.Single k) h near = one
+    selects given.Nothing h near = one
+    selects (given.Column k) h near = one
+    selects (given.Row k) h near = given-lun k h near
+    selects (given.Single k) h near = one
 
   -- Data out: one place further, where the end has not come.
 
@@ -139,11 +139,11 @@ module _ (g : Geometry) where
       (λ _. by-pick KeptSound (eqb (byte_of f) 0x00 && shows_status d.output) _ _ (λ _. k) (λ _. refl))
 
   row-kept-sound : (found : Given) (o : Output) → KeptSound o → KeptSound (row_kept g found o)
-  row-kept-sound goal.Nothing o k = k
-  row-kept-sound (goal.Column c) o k = k
-  row-kept-sound (goal.Row r) o k =
+  row-kept-sound given.Nothing o k = k
+  row-kept-sound (given.Column c) o k = k
+  row-kept-sound (given.Row r) o k =
       by-pick KeptSound (gives_status r.first && not (is_register_of (lun_of g r.row) o)) _ _ (λ _. refl) (λ _. k)
-  row-kept-sound (goal.Single c) o k = k
+  row-kept-sound (given.Single c) o k = k
 
   pub memory_kept : (d : Decoder) (e : Event) → output_sound g d.output ≡ true → kept_sound g d.kept ≡ true → kept_sound g (kept_after g d e) ≡ true
   unfolding kept_after

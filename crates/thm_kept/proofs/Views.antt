@@ -28,7 +28,7 @@ use Rattle.target.specs.declared.commands.Looks.TheVariants as looks
 use Rattle.target.specs.declared.commands.SecondFound.{SecondFound}
 use Rattle.target.specs.declared.commands.SecondFound.TheVariants as second
 use Rattle.target.specs.declared.views.Given.{Given}
-use Rattle.target.specs.declared.views.Given.TheVariants as goal
+use Rattle.target.specs.declared.views.Given.TheVariants as given
 use Rattle.target.specs.declared.views.Taker.{Taker}
 use Rattle.target.specs.declared.views.Taker.TheVariants as taker
 use Rattle.target.specs.declared.views.Ended.{Ended}
@@ -73,22 +73,22 @@ module _ (g : Geometry) where
 
   -- a whole row belongs to a command that takes one
   abbrev pub Completes : Given → Type 0
-  Completes goal.Nothing = Unit
-  Completes (goal.Column k) = Unit
-  Completes (goal.Row k) = takes_row k.first ≡ true
-  Completes (goal.Single k) = Unit
+  Completes given.Nothing = Unit
+  Completes (given.Column k) = Unit
+  Completes (given.Row k) = takes_row k.first ≡ true
+  Completes (given.Single k) = Unit
 
   pub completes : (s : Sequence) (v : ℕ) → sequence_sound g s ≡ true → Completes (completed s v)
   completes Idle v h = tt
-  completes (Columns k) v h = by-pick Completes (eqb k.got 1) _ goal.Nothing (λ _. tt) (λ _. tt)
+  completes (Columns k) v h = by-pick Completes (eqb k.got 1) _ given.Nothing (λ _. tt) (λ _. tt)
   completes (Rows k) v h =
-      by-pick Completes (eqb k.got 2) _ goal.Nothing
+      by-pick Completes (eqb k.got 2) _ given.Nothing
       (λ _. (both3 (takes_row k.first) (ltb k.got 3) (column_held g k.first k.column) h).0)
       (λ _. tt)
   completes (Single f) v h = tt
   completes (Due k) v h = tt
   completes (Filling k) v h = tt
-  completes (Moving k) v h = by-pick Completes (eqb k.got 1) _ goal.Nothing (λ _. tt) (λ _. tt)
+  completes (Moving k) v h = by-pick Completes (eqb k.got 1) _ given.Nothing (λ _. tt) (λ _. tt)
   completes (Setting k) v h = tt
 
   -- What takes data.

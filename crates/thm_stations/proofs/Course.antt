@@ -25,7 +25,7 @@ use Rattle.target.specs.declared.commands.FirstFound.TheVariants as first
 use Rattle.target.specs.declared.commands.Waits.{Waits}
 use Rattle.target.specs.declared.commands.Waits.TheVariants as waits
 use Rattle.target.specs.declared.views.Given.{Given}
-use Rattle.target.specs.declared.views.Given.TheVariants as goal
+use Rattle.target.specs.declared.views.Given.TheVariants as given
 use Rattle.target.specs.declared.views.Taker.{Taker}
 use Rattle.target.specs.declared.views.Taker.TheVariants as taker
 use Rattle.target.specs.declared.views.Ender.{Ender}
@@ -76,10 +76,10 @@ EndedOf g l (ender.By k) = (takes_row k.first ≡ true) × (lun_of g k.row ≡ l
 
 -- an address that completes a row of the l-th LUN, or a column of which nothing is asked
 unfoldable pub GivenOf : Geometry → ℕ → Given → Type 0
-GivenOf g l goal.Nothing = Unit
-GivenOf g l (goal.Column k) = k.asks ≡ false
-GivenOf g l (goal.Row k) = lun_of g k.row ≡ l
-GivenOf g l (goal.Single k) = ⊥
+GivenOf g l given.Nothing = Unit
+GivenOf g l (given.Column k) = k.asks ≡ false
+GivenOf g l (given.Row k) = lun_of g k.row ≡ l
+GivenOf g l (given.Single k) = ⊥
 
 -- data for a program of the l-th LUN
 unfoldable pub TakerOf : Geometry → ℕ → Taker → Type 0

@@ -9,7 +9,7 @@ use Prim.Native.Nat.{ℕ, ◌*◌}
 use lib.ListN.{set}
 use lib.Dec.{eqb, leb}
 use borrow.Author.Tests.{leb-false, not-true}
-use Rattle.slices.proofs.Parts.{get_d-alike}
+use Rattle.slices.proofs.Parts.{get_or-alike}
 use Rattle.target.specs.Address.{lun_of, block_exists, row_exists}
 use Rattle.target.specs.Commands.{clears_register, closes_copyback, waits_for, cycles_of, first_of, second_row}
 use Rattle.target.specs.Luns.{lun_at, lun_begun, lun_closed, blank_at}
@@ -34,7 +34,7 @@ use Rattle.target.specs.declared.commands.Act.TheVariants as act
 use Rattle.target.specs.declared.commands.FirstFound.{FirstFound}
 use Rattle.target.specs.declared.commands.FirstFound.TheVariants as first
 use Rattle.target.specs.declared.views.Given.{Given}
-use Rattle.target.specs.declared.views.Given.TheVariants as goal
+use Rattle.target.specs.declared.views.Given.TheVariants as given
 use Rattle.target.specs.declared.views.Taker.{Taker}
 use Rattle.target.specs.declared.views.Taker.TheVariants as taker
 use Rattle.target.specs.declared.views.Ender.{Ender}
@@ -97,12 +97,12 @@ module _ (g : Geometry) (l : ℕ) where
 
   address-mine : (clear : Bool) (x : Given) → GivenOf g l x → Mine g l (address_work g clear x)
   unfolding GivenOf Mine
-  address-mine clear goal.Nothing w = tt
-  address-mine clear (goal.Column k) w = tt
-  address-mine clear (goal.Row k) w =
+  address-mine clear given.Nothing w = tt
+  address-mine clear (given.Column k) w = tt
+  address-mine clear (given.Row k) w =
       by-pick (Mine g l) (clears_register k.first && clear) (work.ClearOne (lun_of g k.row)) work.Nothing (λ _. w)
       (λ _. tt)
-  address-mine clear (goal.Single k) w = tt
+  address-mine clear (given.Single k) w = tt
 
   data-mine : (x : Taker) (v : ℕ) → TakerOf g l x → Mine g l (data_work g x v)
   unfolding TakerOf Mine
@@ -133,10 +133,10 @@ module _ (g : Geometry) (l : ℕ) where
 
     addressed-changed : (x : Given) → GivenOf g l x → Changed l xs ys (addressed_luns g xs x) (addressed_luns g ys x)
     unfolding GivenOf
-    addressed-changed goal.Nothing w = as-were
-    addressed-changed (goal.Column k) w = as-were
-    addressed-changed (goal.Row k) w = changed-pick (closes_copyback k.first) (closed-changed (lun_of g k.row) w)
-    addressed-changed (goal.Single k) w = as-were
+    addressed-changed given.Nothing w = as-were
+    addressed-changed (given.Column k) w = as-were
+    addressed-changed (given.Row k) w = changed-pick (closes_copyback k.first) (closed-changed (lun_of g k.row) w)
+    addressed-changed (given.Single k) w = as-were
 
     ended-changed : (x : Ender) (found : Findings) → EndedOf g l x
         → Changed l xs ys (ended_luns g xs x found) (ended_luns g ys x found)
@@ -261,7 +261,7 @@ module _ (k : Fixed) (l a b : ℕ) (xs ys : List Lun) (lun : lun_at xs l ≡ lun
   byte-alike d e output.Nothing q ended = refl
   byte-alike d e (output.Register m c) q ended =
       let size = page_size k.geometry in
-      rw q (get_d-alike B.registers C.registers (l * size) size agree c.0 (leb-false _ _ ended))
+      rw q (get_or-alike B.registers C.registers (l * size) size agree c.0 (leb-false _ _ ended))
   byte-alike d e (output.Parameters at) q ended = absurd q
   byte-alike d e (output.Status m) q ended = rw q (status-alike d e)
   byte-alike d e (output.Ids at) q ended = absurd q

@@ -12,7 +12,7 @@ use lib.Dec.{eqb}
 use Rattle.slices.specs.Cells.{splice, part, and_bytes, some_set}
 use Rattle.slices.proofs.Anded.{length-and}
 use Rattle.slices.proofs.Splice.{piece}
-use Rattle.slices.proofs.Parts.{parts-alike, get_d-alike, set-splice}
+use Rattle.slices.proofs.Parts.{parts-alike, get_or-alike, set-splice}
 use Rattle.target.specs.Address.{lun_of, page_of, block_exists, row_exists}
 use Rattle.target.specs.Sizes.{page_size}
 use Rattle.target.specs.declared.Geometry.{Geometry}
@@ -59,7 +59,7 @@ module _ (g : Geometry) (b c : Buffers) (sizes : SizesOf g b) (sizesʳ : SizesOf
 
   pub count-alike : (r : Row) → row_exists g r ≡ true → CountsAgree g (lun_of g r) b c
       → get_or b.counts (page_index g r) 0 ≡ get_or c.counts (page_index g r) 0
-  count-alike r there a = rw (page-place g r) (get_d-alike b.counts c.counts (lun_of g r * lun_pages g) (lun_pages g) a (page_within g r) (page-within g r there))
+  count-alike r there a = rw (page-place g r) (get_or-alike b.counts c.counts (lun_of g r * lun_pages g) (lun_pages g) a (page_within g r) (page-within g r there))
 
   -- the counts of the higher pages of its block
   pub higher-alike : (r : Row) → row_exists g r ≡ true → CountsAgree g (lun_of g r) b c

@@ -20,7 +20,7 @@ use Rattle.target.specs.declared.Refusal.TheVariants as refusal
 use Rattle.target.specs.declared.Sequence.{Sequence}
 use Rattle.target.specs.declared.Target.{Target}
 use Rattle.target.specs.declared.views.Given.{Given}
-use Rattle.target.specs.declared.views.Given.TheVariants as goal
+use Rattle.target.specs.declared.views.Given.TheVariants as given
 use Rattle.target.specs.declared.views.Ender.{Ender}
 use Rattle.target.specs.declared.views.Ender.TheVariants as ender
 use Rattle.target.specs.declared.Verdict.{Verdict}
@@ -46,11 +46,11 @@ ended-count g luns (ender.By k) found =
     by-pick (λ (y : List Lun). length y ≡ length luns) (second_row k.second).starts _ luns (λ _. length-set luns _ _) (λ _. refl)
 
 addressed-count : (g : Geometry) (luns : List Lun) (x : Given) → length (addressed_luns g luns x) ≡ length luns
-addressed-count g luns goal.Nothing = refl
-addressed-count g luns (goal.Column k) = refl
-addressed-count g luns (goal.Row k) =
+addressed-count g luns given.Nothing = refl
+addressed-count g luns (given.Column k) = refl
+addressed-count g luns (given.Row k) =
     by-pick (λ (y : List Lun). length y ≡ length luns) (closes_copyback k.first) _ luns (λ _. length-set luns _ _) (λ _. refl)
-addressed-count g luns (goal.Single k) = refl
+addressed-count g luns (given.Single k) = refl
 
 luns-four : (g : Geometry) (luns : List Lun) (s : Sequence) (e : Event) (found : Findings) → length luns ≡ 4
     → length (luns_after g luns s e found) ≡ 4

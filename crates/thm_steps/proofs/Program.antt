@@ -9,7 +9,7 @@ use lib.Seq.{get_or-take, get_or-drop}
 use lib.Bits.{bit_and}
 use Rattle.slices.specs.Cells.{part, splice, and_bytes}
 use Rattle.slices.proofs.Splice.{length_part, part-splice}
-use Rattle.slices.proofs.Anded.{length-and, get_d-and}
+use Rattle.slices.proofs.Anded.{length-and, get_or-and}
 use Rattle.target.specs.Pick.{pick, or_else}
 use Rattle.target.specs.Sizes.{page_size}
 use Rattle.target.specs.Address.{row_from, lun_of}
@@ -59,7 +59,7 @@ anded-byte xs ys at from k i fits fitsʳ low =
     let there : i < length (part ys from k) = subst (λ (n : ℕ). i < n) (sym (part_length ys from k fitsʳ)) low in
     sym (part-byte (splice xs at k new) at k i low)
     ∙ ap (λ (l : List ℕ). get_or l i 0) (part-splice xs at k new fits long)
-    ∙ get_d-and (part xs at k) (part ys from k) i here there
+    ∙ get_or-and (part xs at k) (part ys from k) i here there
     ∙ ap (λ (n : ℕ). bit_and n (get_or (part ys from k) i 0)) (part-byte xs at k i low)
     ∙ ap (λ (n : ℕ). bit_and (get_or xs (at + i) 0) n) (part-byte ys from k i low)
 

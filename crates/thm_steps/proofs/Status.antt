@@ -30,7 +30,7 @@ use Rattle.target.specs.declared.RowCycles.{RowCycles}
 use Rattle.target.specs.declared.Sequence.{Sequence}
 use Rattle.target.specs.declared.Sequence.TheVariants.{Idle, Columns, Rows, Single, Due, Filling, Moving, Setting}
 use Rattle.target.specs.declared.views.Given.{Given}
-use Rattle.target.specs.declared.views.Given.TheVariants as goal
+use Rattle.target.specs.declared.views.Given.TheVariants as given
 use Rattle.target.specs.declared.views.Ender.{Ender}
 use Rattle.target.specs.declared.Output.{Output}
 use Rattle.target.specs.declared.Output.TheVariants as output
@@ -93,12 +93,12 @@ stored-leaves says (x ∷ xs) (suc i) (suc l) y same = stored-leaves says xs i l
 module _ (g : Geometry) (luns : List Lun) where
   pub row-leaves : {A : Type 0} (says : Lun → A) → ((x : Lun) → says (lun_closed x) ≡ says x) → (k : Given) (l : ℕ)
       → says (lun_at (addressed_luns g luns k) l) ≡ says (lun_at luns l)
-  row-leaves says same goal.Nothing l = refl
-  row-leaves says same (goal.Column k) l = refl
-  row-leaves says same (goal.Row k) l =
+  row-leaves says same given.Nothing l = refl
+  row-leaves says same (given.Column k) l = refl
+  row-leaves says same (given.Row k) l =
       by-pick (λ (x : List Lun). says (lun_at x l) ≡ says (lun_at luns l)) (closes_copyback k.first) _ _
       (λ _. stored-leaves says luns (lun_of g k.row) l _ (same _)) (λ _. refl)
-  row-leaves says same (goal.Single k) l = refl
+  row-leaves says same (given.Single k) l = refl
 
   -- and where it is not the last cycle of 80h's row, all
   last-leaves : (k : RowCycles) → ((c : Column) (low mid : ℕ) → Rows k ≡ last_row first.Program c low mid → ⊥)

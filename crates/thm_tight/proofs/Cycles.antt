@@ -34,7 +34,7 @@ use Rattle.target.specs.declared.commands.Waits.TheVariants as waits
 use Rattle.target.specs.declared.commands.FirstFound.{FirstFound}
 use Rattle.target.specs.declared.commands.FirstFound.TheVariants as first
 use Rattle.target.specs.declared.views.Given.{Given}
-use Rattle.target.specs.declared.views.Given.TheVariants as goal
+use Rattle.target.specs.declared.views.Given.TheVariants as given
 use Rattle.rules.specs.Rules.{unknown, before_reset, fits, misplaced, beyond, out_of_range, names_working, output_works, lun_works, lacks_copyback, no_copyback, work_for, others_work_for, others_busy, is_guarded, line_low, data_ended, output_ended, past_end, unoffered, not_offered}
 use Rattle.rules.specs.Rules as rules
 use Rattle.rules.proofs.ByKind.{event, command-verdict, address-verdict, in-verdict, out-verdict}
@@ -117,10 +117,10 @@ module _ (luns : List Lun) (calm : Calm luns) where
   asked-not b l = rw (calm l) (and_no b)
 
   names-not : (g : Geometry) (selected : ℕ) (k : Given) → names_working g luns selected k ≡ false
-  names-not g selected goal.Nothing = refl
-  names-not g selected (goal.Column k) = asked-not k.asks selected
-  names-not g selected (goal.Row k) = asked-not (needs_ready k.first) (lun_of g k.row)
-  names-not g selected (goal.Single k) = refl
+  names-not g selected given.Nothing = refl
+  names-not g selected (given.Column k) = asked-not k.asks selected
+  names-not g selected (given.Row k) = asked-not (needs_ready k.first) (lun_of g k.row)
+  names-not g selected (given.Single k) = refl
 
   work-not : (selected : ℕ) (w : Waits) → work_for luns selected w ≡ false
   work-not selected waits.Nobody = refl
@@ -218,14 +218,14 @@ reset-accepted t = command-verdict t 0xff ∙ rw (and_no (is_open t.decoder.sequ
 -- where none is kept an address leaves none
 none_kept : (g : Geometry) (bare : Bool) (k : Given) → pick bare output.Nothing (row_kept g k output.Nothing) ≡ output.Nothing
 none_kept g true k = refl
-none_kept g false goal.Nothing = refl
-none_kept g false (goal.Column k) = refl
-none_kept g false (goal.Row k) = by (gives_status k.first && true)
+none_kept g false given.Nothing = refl
+none_kept g false (given.Column k) = refl
+none_kept g false (given.Row k) = by (gives_status k.first && true)
   where
     by : (b : Bool) → pick b output.Nothing output.Nothing ≡ output.Nothing
     by true = refl
     by false = refl
-none_kept g false (goal.Single k) = refl
+none_kept g false (given.Single k) = refl
 
 -- the rules that each of the other cycles can meet
 module _ (g : Geometry) (luns : List Lun) (calm : Calm luns) (selected : ℕ) (s : Sequence) (o : Output) where

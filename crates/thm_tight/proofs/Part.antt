@@ -180,10 +180,10 @@ both_most most (x ∷ xs) ys h k =
     let p = both (leb x most) (all_at_most most xs) h in
     and-true (leb x most) (all_at_most most (xs ++ ys)) p.0 (both_most most xs ys p.1 k)
 
-get_d-zeros : (n i : ℕ) → ◌≡◌ {A = ℕ} (get_or (replicate n 0) i 0) 0
-get_d-zeros zero i = refl
-get_d-zeros (suc n) zero = refl
-get_d-zeros (suc n) (suc i) = get_d-zeros n i
+get_or-zeros : (n i : ℕ) → ◌≡◌ {A = ℕ} (get_or (replicate n 0) i 0) 0
+get_or-zeros zero i = refl
+get_or-zeros (suc n) zero = refl
+get_or-zeros (suc n) (suc i) = get_or-zeros n i
 
 module _ (k : Part) (f : Fine k) where
   fields-fine : fields_in_limits (page_of k) ≡ true
@@ -242,7 +242,7 @@ module _ (k : Part) where
       let front : List ℕ = replicate k.bad 1 in
       let rest : List ℕ = replicate (blocks_in k - k.bad) 0 in
       let at : length front + (i - k.bad) ≡ i = omega (arith, length-replicate {A = ℕ} k.bad 1) in
-      ap (λ (n : ℕ). get_or (front ++ rest) n 0) (sym at) ∙ get_or-append-add front rest (i - k.bad) 0 ∙ get_d-zeros (blocks_in k - k.bad) (i - k.bad)
+      ap (λ (n : ℕ). get_or (front ++ rest) n 0) (sym at) ∙ get_or-append-add front rest (i - k.bad) 0 ∙ get_or-zeros (blocks_in k - k.bad) (i - k.bad)
 
 module _ (k : Part) (f : Fine k) where
   counts-fine : all_at_most (programs_a_page (page_of k)) (counts_of k) ≡ true

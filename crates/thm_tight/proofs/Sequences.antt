@@ -39,7 +39,7 @@ use Rattle.target.specs.declared.commands.FirstFound.TheVariants as first
 use Rattle.target.specs.declared.commands.Looks.{Looks}
 use Rattle.target.specs.declared.commands.Looks.TheVariants as looks
 use Rattle.target.specs.declared.views.Given.{Given}
-use Rattle.target.specs.declared.views.Given.TheVariants as goal
+use Rattle.target.specs.declared.views.Given.TheVariants as given
 use Rattle.target.specs.declared.commands.Then.{Then}
 use Rattle.target.specs.declared.commands.Then.TheVariants as then
 use Rattle.target.proofs.Both.{both, both3}
@@ -272,7 +272,7 @@ pub record Base (g : Geometry) (bad : ℕ) (f : First) : Type 0 where
 
 -- the row that an address completes
 abbrev rowed : First → Row → Given
-rowed f r = goal.Row (record { first = f; row = r })
+rowed f r = given.Row (record { first = f; row = r })
 
 -- with every LUN as FFh leaves it no row closes a copyback
 closed-ready : (g : Geometry) (bad l : ℕ) → set (ready_luns g bad) l (lun_closed (lun_at (ready_luns g bad) l)) ≡ ready_luns g bad
@@ -511,9 +511,9 @@ module _ (g : Geometry) (bad : ℕ) (fine : Fine (full g bad)) where
 
     due-column : takes_row f ≡ false → Starting 0 (followed then.Second f k.column (record { 0 = 0 })) output.Nothing
     due-column none =
-        let goal : column_given f k.column ≡ followed then.Second f k.column (record { 0 = 0 }) = rw (none, next) in
+        let given : column_given f k.column ≡ followed then.Second f k.column (record { 0 = 0 }) = rw (none, next) in
         let held : ltb k.column.0 (column_end g (in_page f)) ≡ true = (rw (lone none) at parts).1 in
-        subst (λ (s : Sequence). Starting 0 s output.Nothing) goal (column-whole g bad fine f (begin f) (lone none) k.column (ltb-true _ _ held))
+        subst (λ (s : Sequence). Starting 0 s output.Nothing) given (column-whole g bad fine f (begin f) (lone none) k.column (ltb-true _ _ held))
 
     due-whole : Stands g (Due k)
     due-whole = by (takes_row f) refl parts.2

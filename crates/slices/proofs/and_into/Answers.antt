@@ -4,7 +4,7 @@ use native.Mathlib.Omega.{arith}
 use mathlib.Core.Path.{sym, ap, ◌∙◌}
 use lib.ListN.{length, get_or}
 use lib.Bits.{bit_and}
-use Rattle.slices.proofs.Anded.{length-and, get_d-and}
+use Rattle.slices.proofs.Anded.{length-and, get_or-and}
 use Rattle.slices.proofs.Sweep.{sweep-none, sweep-more, sweep-end, sweep-read}
 use Rattle.slices.proofs.and_into.Goals as goal
 
@@ -26,7 +26,7 @@ loop-i-preserved c =
     let below : i < length old = omega (arith, c.loop-i.invariant.as_long) in
     sweep-more (length-and old src) c.loop-i.invariant _ test
     (ap (λ (x : ℕ). bit_and x (get_or src i 0)) (sweep-read (length-and old src) c.loop-i.invariant test)
-    ∙ sym (get_d-and old src i below (omega arith)))
+    ∙ sym (get_or-and old src i below (omega arith)))
 
 pub shape_of-dst : goal.shape_of-dst
 shape_of-dst c = c.loop-i.invariant.as_long
