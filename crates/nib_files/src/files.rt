@@ -40,11 +40,12 @@ pub fn join(path: &mut Path, dir: &[u8], name: &[u8]) -> usize
     count(n, path)
 }
 
-// Where bytes come from: standard input, or a file that stands for it.
+// Where bytes come from: standard input, a file that stands for it, or nothing that is open.
 #[derive(Drop)]
 pub enum Source {
     Standard(Stdin),
     Named(File),
+    Closed,
 }
 
 impl Read for Source {
@@ -52,12 +53,16 @@ impl Read for Source {
         match self {
             Source::Standard(input) => input.read(buf),
             Source::Named(file) => file.read(buf),
+            Source::Closed => Err(Error::from_raw_os_error(9)),
         }
     }
 }
 
-// A path as text: std opens no other.
+// A path as text: std opens no other. One that is too long for the system is told so, whatever its bytes.
 pub fn text_of(path: &[u8]) -> Result<&str, Error> {
+    if 4096 <= path.len() {
+        return Err(Error::from_raw_os_error(36));
+    }
     match std::str::from_utf8(path) {
         Ok(text) => Ok(text),
         Err(_) => Err(Error::from(ErrorKind::InvalidFilename)),
@@ -70,22 +75,12 @@ pub fn open(rt: HostRuntime, path: &[u8]) -> Result<File, Error> {
 
 // A line of the program's own: the path, words, a number, words.
 pub fn complain(rt: HostRuntime, path: &[u8], words: &[u8], n: usize, more: &[u8]) {
-    let _ = complained(rt, path, words, n, more);
-}
-
-fn complained(
-    rt: HostRuntime,
-    path: &[u8],
-    words: &[u8],
-    n: usize,
-    more: &[u8],
-) -> Result<(), Error> {
     let mut to = rt.stderr();
-    to.write_all(b"nib: ")?;
-    to.write_all(path)?;
-    to.write_all(words)?;
-    write!(to, "{n}")?;
-    to.write_all(more)
+    let _ = to.write_all(b"nib: ");
+    let _ = to.write_all(path);
+    let _ = to.write_all(words);
+    let _ = write!(to, "{n}");
+    let _ = to.write_all(more);
 }
 
 fn complain_of_length(rt: HostRuntime, path: &[u8], got: usize, due: usize) {
@@ -93,22 +88,22 @@ fn complain_of_length(rt: HostRuntime, path: &[u8], got: usize, due: usize) {
     let _ = eprintln!(rt; "{due}");
 }
 
-// Reads until the buffer is full or the input ends.
-pub fn read_full<R: Read>(input: &mut R, buf: &mut [u8]) -> Result<usize, Error>
-    ensures { IfOk result (λ n. n ≤ length buf.new) }
+// Reads until the buffer is full, the input ends or a read fails, and returns how many bytes came.
+pub fn read_full<R: Read>(input: &mut R, buf: &mut [u8]) -> usize
+    ensures { result ≤ length buf.new }
 {
     let mut at = 0;
     for _ in 0..u64::MAX {
         if at >= buf.len() {
             break;
         }
-        let n = input.read(&mut buf[at..])?;
-        if n == 0 {
-            break;
+        match input.read(&mut buf[at..]) {
+            Ok(0) => break,
+            Ok(n) => at += n,
+            Err(_) => break,
         }
-        at += n;
     }
-    Ok(at)
+    at
 }
 
 // One byte more of a file than was due: 1 if there is one, 0 if not.
@@ -121,7 +116,7 @@ pub fn one_more<R: Read>(input: &mut R) -> Result<usize, Error> {
 pub fn read_and_more<R: Read>(input: &mut R, whole: &mut [u8]) -> Result<(usize, usize), Error>
     ensures { IfOk result (λ read. read.0 ≤ length whole.new) }
 {
-    let n = read_full(input, whole)?;
+    let n = read_full(input, whole);
     let more = one_more(input)?;
     Ok((n, more))
 }

@@ -246,7 +246,7 @@ fn taken(bytes: &Answer, got: usize, page: &mut Page) -> bool {
 fn page_from(rt: HostRuntime, opened: File, path: &[u8], page: &mut Page) -> Result<bool, Error> {
     let mut file = opened;
     let mut bytes = [0u8; 769];
-    let got = read_full(&mut file, &mut bytes)?;
+    let got = read_full(&mut file, &mut bytes);
     one_more(&mut file)?;
     if !taken(&bytes, got, page) {
         refuse(rt, path, PowerRefusal::PageLength);

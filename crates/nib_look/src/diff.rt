@@ -165,10 +165,8 @@ fn unread(rt: HostRuntime, out: &mut Paper, f: Found, path: &[u8]) -> Found {
 // Whether there were so many bytes more.
 fn read_front(input: &mut File, held: &mut [u8], n: usize) -> bool {
     let m = count(n, held);
-    match read_full(input, &mut held[..m]) {
-        Ok(got) => got == m,
-        Err(_) => false,
-    }
+    let got = read_full(input, &mut held[..m]);
+    got == m
 }
 
 // The next page of the first folder's array, of `n` bytes, beside the second's.

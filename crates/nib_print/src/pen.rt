@@ -1,8 +1,8 @@
 // Writing: bytes gather on a paper and go out when it is full or when `flush` is asked, so that a line costs no call of its own.
 ghost use Rattle.io.specs.Counts.{IsPrefixLen};
 
-use std::alloc::{AllocError, Global};
-use std::io::{Error, Write};
+use std::io::{Cursor, Error, Stderr, Write};
+use std::str::from_utf8;
 
 pub type Paper = [u8; 65536];
 
@@ -35,23 +35,19 @@ pub fn begin(rt: HostRuntime, to: To) -> Pen {
     }
 }
 
-// The system's words for an error alone, as C's strerror has them.
-fn words_of(alloc: Global, e: &Error) -> Result<String, AllocError> {
-    let all = format!(in alloc; "{e}")?;
-    match all.as_str().split_once(" (os error ") {
-        Some((front, _)) => String::from_str(alloc, front),
-        None => Ok(all),
+// The system's words for an error alone, as C's strerror has them: what std writes before the error's number.
+fn put_words(to: &mut Stderr, e: &Error) {
+    let mut room = Cursor::new([0u8; 320]);
+    let _ = write!(room, "{e}");
+    let n = room.position() as usize;
+    let text = room.into_inner();
+    if let Ok(all) = from_utf8(&text[..count(n, &text)]) {
+        let words = match all.split_once(" (os error ") {
+            Some((front, _)) => front,
+            None => all,
+        };
+        let _ = to.write_all(words.as_bytes());
     }
-}
-
-fn tell(rt: HostRuntime, path: &[u8], e: &Error) -> Result<(), Error> {
-    let why = words_of(rt.alloc(), e)?;
-    let mut to = rt.stderr();
-    to.write_all(b"nib: ")?;
-    to.write_all(path)?;
-    to.write_all(b": ")?;
-    to.write_all(why.as_bytes())?;
-    to.write_all(b"\n")
 }
 
 // `n`, or the slice's length where that is less.
@@ -63,7 +59,12 @@ pub fn count(n: usize, s: &[u8]) -> usize
 
 // A line on standard error: the path, a colon, and why a call on it failed.
 pub fn failed(rt: HostRuntime, path: &[u8], e: &Error) {
-    let _ = tell(rt, path, e);
+    let mut to = rt.stderr();
+    let _ = to.write_all(b"nib: ");
+    let _ = to.write_all(path);
+    let _ = to.write_all(b": ");
+    put_words(&mut to, e);
+    let _ = to.write_all(b"\n");
 }
 
 fn write_to(rt: HostRuntime, to: To, s: &[u8]) -> Result<(), Error> {

@@ -1,4 +1,4 @@
-// Words that name a whole job, and the values that come after each: `read LUN BLOCK PAGE COLUMN`, `read_out LUN COLUMN COUNT`,
+// Words that name a whole job, and the values that come after each: `read LUN BLOCK PAGE COLUMN`, `read-out LUN COLUMN COUNT`,
 // `program LUN BLOCK PAGE COLUMN` and any number of bytes, `erase LUN BLOCK`, `status LUN COUNT`. And the word `ok`.
 ghost use Rattle.std.specs.Prelude.{◌≡◌};
 ghost use Rattle.target.specs.Pick.{pick};

@@ -3,13 +3,13 @@ ghost use Rattle.std.specs.Prelude.{◌≤◌, length};
 ghost use Rattle.io.specs.Counts.{IsPrefixLen};
 
 use crate::numbers::{add, count, hex_digit, set};
-use std::alloc::{AllocError, Global};
 use std::fs::File;
-use std::io::{Error, ErrorKind, Read, Write};
+use std::io::{Cursor, Error, ErrorKind, Read, Stderr, Write};
+use std::str::from_utf8;
 
 // A path as text: std opens no other.
 pub fn text_of(path: &[u8]) -> Result<&str, Error> {
-    match std::str::from_utf8(path) {
+    match from_utf8(path) {
         Ok(text) => Ok(text),
         Err(_) => Err(Error::from(ErrorKind::InvalidFilename)),
     }
@@ -19,22 +19,27 @@ pub fn open(rt: HostRuntime, path: &[u8]) -> Result<File, Error> {
     File::open(&rt, text_of(path)?)
 }
 
-// The system's words for an error alone, as C's strerror has them.
-fn words_of(alloc: Global, e: &Error) -> Result<String, AllocError> {
-    let all = format!(in alloc; "{e}")?;
-    match all.as_str().split_once(" (os error ") {
-        Some((front, _)) => String::from_str(alloc, front),
-        None => Ok(all),
+// The system's words for an error alone, as C's strerror has them: what std writes before the error's number.
+fn put_words(to: &mut Stderr, e: &Error) {
+    let mut room = Cursor::new([0u8; 320]);
+    let _ = write!(room, "{e}");
+    let n = room.position() as usize;
+    let text = room.into_inner();
+    if let Ok(all) = from_utf8(&text[..count(n, &text)]) {
+        let words = match all.split_once(" (os error ") {
+            Some((front, _)) => front,
+            None => all,
+        };
+        let _ = to.write_all(words.as_bytes());
     }
 }
 
-fn tell(rt: HostRuntime, path: &[u8], e: &Error) -> Result<(), Error> {
-    let why = words_of(rt.alloc(), e)?;
+fn tell(rt: HostRuntime, path: &[u8], e: &Error) {
     let mut to = rt.stderr();
-    to.write_all(path)?;
-    to.write_all(b": ")?;
-    to.write_all(why.as_bytes())?;
-    to.write_all(b"\n")
+    let _ = to.write_all(path);
+    let _ = to.write_all(b": ");
+    put_words(&mut to, e);
+    let _ = to.write_all(b"\n");
 }
 
 // Reads until the buffer is full or the input ends; an input that fails has ended.
@@ -66,7 +71,7 @@ pub fn load(rt: HostRuntime, path: &[u8], to: &mut [u8]) -> usize
             count(n, to)
         }
         Err(e) => {
-            let _ = tell(rt, path, &e);
+            tell(rt, path, &e);
             count(0, to)
         }
     }

@@ -81,13 +81,11 @@ fn tried(rt: HostRuntime, line: &[u8]) {
     let bar = place(line, 0, b'<');
     let said = part_of(line, 0, sub(bar, 1));
     title(rt, said);
-    match open(rt, part_of(line, add(bar, 2), line.len())) {
-        Ok(file) => {
-            let mut input = Source::Named(file);
-            command(rt, part_of(said, 0, place(said, 0, b',')), &mut input);
-        }
-        Err(_) => text(rt, b"no such input\n"),
-    }
+    let mut input = match open(rt, part_of(line, add(bar, 2), line.len())) {
+        Ok(file) => Source::Named(file),
+        Err(_) => Source::Closed,
+    };
+    command(rt, part_of(said, 0, place(said, 0, b',')), &mut input);
 }
 
 // Line after line; the number of turns only ends the loop, and is never met.

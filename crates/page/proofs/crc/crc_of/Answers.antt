@@ -1,4 +1,4 @@
--- `page::crc::crc_of` meets its contract. The one computed test over the whole table is `crc-by-requires`: with the definitions
+-- `page::crc::crc_of` meets its contract. The one computed test over the whole table is `crc_by-requires`: with the definitions
 -- opened, antt works out the 256 entries and compares them with the code's.
 use mathlib.Core.Path.{refl}
 use Rattle.page.specs.Crc.{crc_bit, crc_bits, crc_byte, steps}
