@@ -10,6 +10,11 @@ use std::io::{Error, ErrorKind, Read, Stdin, Write};
 
 pub type Path = [u8; 4096];
 
+// The system's numbers of two errors: 'Bad file descriptor' and 'File name too long'.
+const EBADF: i32 = 9;
+
+const ENAMETOOLONG: i32 = 36;
+
 // A byte of a path. One too many is left out, and a path that is full is refused by whoever opens it.
 fn append_byte(path: &mut Path, n: usize, b: u8) -> usize {
     if n < 4096 {
@@ -53,7 +58,7 @@ impl Read for Source {
         match self {
             Source::Standard(input) => input.read(buf),
             Source::Named(file) => file.read(buf),
-            Source::Closed => Err(Error::from_raw_os_error(9)),
+            Source::Closed => Err(Error::from_raw_os_error(EBADF)),
         }
     }
 }
@@ -61,7 +66,7 @@ impl Read for Source {
 // A path as text: std opens no other. One that is too long for the system is told so, whatever its bytes.
 pub fn text_of(path: &[u8]) -> Result<&str, Error> {
     if 4096 <= path.len() {
-        return Err(Error::from_raw_os_error(36));
+        return Err(Error::from_raw_os_error(ENAMETOOLONG));
     }
     match std::str::from_utf8(path) {
         Ok(text) => Ok(text),
