@@ -1,5 +1,5 @@
 #!/usr/bin/env python3
-"""Refusal words are written once, as the literals of `rule` and `power_rule` in crates/nib_words/src/say.rt: nib says
+"""Refusal words are written once, as the literals of `rule_words` in crates/nib_words/src/say.rt: nib says
 those, and Python asks the library for them. C has them as strings of the header, which this writes.
 
     python3 tools/words.py            # writes the header's nib_words anew
@@ -18,13 +18,10 @@ BEGIN, END = '    switch (refusal) {\n', '    default: return "";\n'
 def rules():
     """Number -> words."""
     text = SAY.read_text(encoding='utf-8')
-    found = {}
-    for name in ('rule', 'power_rule'):
-        body = re.search(r'fn %s\(.*?\n}\n' % name, text, re.S).group(0)
-        cases = re.findall(r'say_if\(\s*out,\s*at,\s*number == (\d+),\s*b"((?:[^"\\]|\\.)*)",?\s*\)', body)
-        assert len(cases) == body.count('say_if('), name
-        found.update((int(number), words) for number, words in cases)
-    return found
+    body = re.search(r'fn rule_words\(.*?\n}\n', text, re.S).group(0)
+    cases = re.findall(r'^ +(\d+) => b"((?:[^"\\]|\\.)*)",$', body, re.M)
+    assert len(cases) == body.count(' => b"') - 1, 'an arm for each rule, and one for all others'
+    return {int(number): words for number, words in cases}
 
 
 def main():

@@ -1,6 +1,6 @@
 -- The record after an event, field by field, and the work that an accepted event asks of the lent buffers (document 01, "The
 -- steps"). Each definition takes only what it reads.
-use Rattle.std.specs.Prelude.{ℕ, ◌+◌, Bool, true, false, ◌&&◌, ◌||◌, not, eqb}
+use Rattle.std.specs.Prelude.{ℕ, ◌+◌, Bool, true, false, ◌&&◌, ◌||◌, not, eqb, None, Option, Some}
 use Rattle.target.specs.Pick.{pick}
 use Rattle.target.specs.Address.{column_from, row_from, lun_of}
 use Rattle.target.specs.Commands.{takes_column, takes_row, cycles_of, then_of, in_page, clears_register, first_of, second_row}
@@ -25,15 +25,11 @@ use Rattle.target.specs.declared.commands.Then.{Then}
 use Rattle.target.specs.declared.commands.Then.TheVariants as then
 use Rattle.target.specs.declared.commands.Act.{Act}
 use Rattle.target.specs.declared.commands.Act.TheVariants as act
-use Rattle.target.specs.declared.commands.FirstFound.{FirstFound}
-use Rattle.target.specs.declared.commands.FirstFound.TheVariants as first
 use Rattle.target.specs.declared.views.Given.{Given}
 use Rattle.target.specs.declared.views.Given.TheVariants as given
 use Rattle.target.specs.declared.views.Taker.{Taker}
 use Rattle.target.specs.declared.views.Taker.TheVariants as taker
 use Rattle.target.specs.declared.views.Ended.{Ended}
-use Rattle.target.specs.declared.views.Ender.{Ender}
-use Rattle.target.specs.declared.views.Ender.TheVariants as ender
 use Rattle.memory.specs.Memory.{kept_after}
 use Rattle.lun_records.specs.LunsAfter.{luns_after}
 
@@ -48,9 +44,9 @@ started f =
     Idle))
 
 -- the sequence that a first command opens
-abbrev pub opened : FirstFound → Sequence
-opened first.Nothing = Idle
-opened (first.Found f) = started f
+abbrev pub opened : Option First → Sequence
+opened None = Idle
+opened (Some f) = started f
 
 abbrev pub is_move : Act → Bool
 is_move act.Nothing = false
@@ -60,9 +56,9 @@ is_move act.Erase = false
 is_move act.Move = true
 
 -- a second command ends the sequence; 85h waits for two column cycles inside the program
-abbrev pub ended_sequence : Ender → Sequence
-ended_sequence ender.Nothing = Idle
-ended_sequence (ender.By k) =
+abbrev pub ended_sequence : Option Ended → Sequence
+ended_sequence None = Idle
+ended_sequence (Some k) =
     pick (is_move (second_row k.second).act) (Moving (record { first = k.first; row = k.row; got = 0; low = 0 })) Idle
 
 -- the sequence after a command
@@ -102,10 +98,10 @@ addressed (Moving k) v =
 addressed (Setting k) v = Setting k
 
 -- the sequence after a data-in byte: a program goes one place up; EFh's fourth byte ends it
-abbrev pub filled : Sequence → Taker → ℕ → Sequence
-filled s taker.Nothing v = s
-filled s (taker.Program k) v = Filling (record { first = k.first; row = k.row; at = record { 0 = k.at.0 + 1 } })
-filled s (taker.Feature k) v =
+abbrev pub filled : Sequence → Option Taker → ℕ → Sequence
+filled s None v = s
+filled s (Some (taker.Program k)) v = Filling (record { first = k.first; row = k.row; at = record { 0 = k.at.0 + 1 } })
+filled s (Some (taker.Feature k)) v =
     pick (eqb k.got 0) (Setting (record { got = 1; value = v }))
     (pick (eqb k.got 1) (Setting (record { got = 2; value = k.value }))
     (pick (eqb k.got 2) (Setting (record { got = 3; value = k.value }))
@@ -132,9 +128,9 @@ abbrev pub ended_place : Geometry → ℕ → Ended → Output
 ended_place g selected k =
     pick (in_page k.first) (output.Parameters k.column.0) (output.Register (ended_lun g selected k) k.column)
 
-abbrev pub ended_output : Geometry → ℕ → Ender → Output
-ended_output g selected ender.Nothing = output.Nothing
-ended_output g selected (ender.By k) = pick (second_row k.second).shows (ended_place g selected k) output.Nothing
+abbrev pub ended_output : Geometry → ℕ → Option Ended → Output
+ended_output g selected None = output.Nothing
+ended_output g selected (Some k) = pick (second_row k.second).shows (ended_place g selected k) output.Nothing
 
 -- what comes out after a command's last address cycle: a LUN's status; 90h with 00h the IDs, with 20h 4F 4E 46 49; ECh the page;
 -- EEh four bytes
@@ -148,20 +144,20 @@ shown then.ParameterPage l v o = output.Parameters 0
 shown then.FeatureOut l v o = output.Feature 0
 
 -- a first command ends output; 70h has no address cycles, and gives the selected LUN's status at once
-abbrev pub first_output : ℕ → FirstFound → Output
-first_output selected first.Nothing = output.Nothing
-first_output selected (first.Found f) = pick (eqb (cycles_of f) 0) (shown (then_of f) selected 0 output.Nothing) output.Nothing
+abbrev pub first_output : ℕ → Option First → Output
+first_output selected None = output.Nothing
+first_output selected (Some f) = pick (eqb (cycles_of f) 0) (shown (then_of f) selected 0 output.Nothing) output.Nothing
 
 -- the output after a command
 abbrev pub command_output : Geometry → ℕ → Sequence → ℕ → Output
 command_output g selected s v = pick (is_open s) (ended_output g selected (ending s v)) (first_output selected (first_of v))
 
 -- the output after an address cycle
-abbrev pub addressed_output : Geometry → Given → Output → Output
-addressed_output g given.Nothing o = o
-addressed_output g (given.Column k) o = o
-addressed_output g (given.Row k) o = shown (then_of k.first) (lun_of g k.row) 0 o
-addressed_output g (given.Single k) o = shown (then_of k.first) 0 k.value o
+abbrev pub addressed_output : Geometry → Option Given → Output → Output
+addressed_output g None o = o
+addressed_output g (Some (given.Column k)) o = o
+addressed_output g (Some (given.Row k)) o = shown (then_of k.first) (lun_of g k.row) 0 o
+addressed_output g (Some (given.Single k)) o = shown (then_of k.first) 0 k.value o
 
 -- the output after a data-out byte: one place further; a status is given as often as asked
 abbrev pub advanced : Output → Output
@@ -184,11 +180,11 @@ output_after g selected d e =
 -- The rest of the record.
 
 -- selected is the LUN of the last accepted row
-abbrev pub row_selects : Geometry → ℕ → Given → ℕ
-row_selects g selected given.Nothing = selected
-row_selects g selected (given.Column k) = selected
-row_selects g selected (given.Row k) = lun_of g k.row
-row_selects g selected (given.Single k) = selected
+abbrev pub row_selects : Geometry → ℕ → Option Given → ℕ
+row_selects g selected None = selected
+row_selects g selected (Some (given.Column k)) = selected
+row_selects g selected (Some (given.Row k)) = lun_of g k.row
+row_selects g selected (Some (given.Single k)) = selected
 
 -- LUN 0 after FFh
 unfoldable pub selected_after : Geometry → ℕ → Sequence → Event → ℕ
@@ -196,10 +192,10 @@ selected_after g selected s e =
     pick (is_reset e) 0 (pick (eqb e.kind 1) (row_selects g selected (completed s e.value)) selected)
 
 -- EFh takes hold at its fourth byte
-abbrev pub clear_set : Bool → Taker → Bool
-clear_set clear taker.Nothing = clear
-clear_set clear (taker.Program k) = clear
-clear_set clear (taker.Feature k) = pick (eqb k.got 3) (eqb k.value 0x40) clear
+abbrev pub clear_set : Bool → Option Taker → Bool
+clear_set clear None = clear
+clear_set clear (Some (taker.Program k)) = clear
+clear_set clear (Some (taker.Feature k)) = pick (eqb k.got 3) (eqb k.value 0x40) clear
 
 -- FFh: program-clear off
 unfoldable pub clear_after : Bool → Sequence → Event → Bool
@@ -257,30 +253,30 @@ acted act.Program r found = pick found.proceeds (work.Program r) work.Nothing
 acted act.Erase r found = pick found.proceeds (work.Erase r) work.Nothing
 acted act.Move r found = work.Nothing
 
-abbrev pub ended_work : Ender → Findings → Work
-ended_work ender.Nothing found = work.Nothing
-ended_work (ender.By k) found = acted (second_row k.second).act k.row found
+abbrev pub ended_work : Option Ended → Findings → Work
+ended_work None found = work.Nothing
+ended_work (Some k) found = acted (second_row k.second).act k.row found
 
 -- with program-clear off 80h fills every register when it is accepted
-abbrev pub first_work : Bool → FirstFound → Work
-first_work clear first.Nothing = work.Nothing
-first_work clear (first.Found f) = pick (clears_register f && not clear) work.ClearAll work.Nothing
+abbrev pub first_work : Bool → Option First → Work
+first_work clear None = work.Nothing
+first_work clear (Some f) = pick (clears_register f && not clear) work.ClearAll work.Nothing
 
 abbrev pub command_work : Bool → Sequence → ℕ → Findings → Work
 command_work clear s v found = pick (is_open s) (ended_work (ending s v) found) (first_work clear (first_of v))
 
 -- with it on only the addressed LUN's, when 80h's last row cycle is accepted
-abbrev pub address_work : Geometry → Bool → Given → Work
-address_work g clear given.Nothing = work.Nothing
-address_work g clear (given.Column k) = work.Nothing
-address_work g clear (given.Row k) = pick (clears_register k.first && clear) (work.ClearOne (lun_of g k.row)) work.Nothing
-address_work g clear (given.Single k) = work.Nothing
+abbrev pub address_work : Geometry → Bool → Option Given → Work
+address_work g clear None = work.Nothing
+address_work g clear (Some (given.Column k)) = work.Nothing
+address_work g clear (Some (given.Row k)) = pick (clears_register k.first && clear) (work.ClearOne (lun_of g k.row)) work.Nothing
+address_work g clear (Some (given.Single k)) = work.Nothing
 
 -- data goes in from the column upward
-abbrev pub data_work : Geometry → Taker → ℕ → Work
-data_work g taker.Nothing v = work.Nothing
-data_work g (taker.Program k) v = work.Put (lun_of g k.row) k.at v
-data_work g (taker.Feature k) v = work.Nothing
+abbrev pub data_work : Geometry → Option Taker → ℕ → Work
+data_work g None v = work.Nothing
+data_work g (Some (taker.Program k)) v = work.Put (lun_of g k.row) k.at v
+data_work g (Some (taker.Feature k)) v = work.Nothing
 
 -- what an accepted event asks of the buffers; FFh fills the registers
 unfoldable pub work_of : Geometry → Bool → Sequence → Event → Findings → Work
@@ -292,10 +288,10 @@ work_of g clear s e found =
     work.Nothing)))
 
 -- For the code: the place of a program's next byte, and of the next byte put out.
-abbrev pub place_in : Taker → ℕ
-place_in taker.Nothing = 0
-place_in (taker.Program k) = k.at.0
-place_in (taker.Feature k) = 0
+abbrev pub place_in : Option Taker → ℕ
+place_in None = 0
+place_in (Some (taker.Program k)) = k.at.0
+place_in (Some (taker.Feature k)) = 0
 
 abbrev pub place_out : Output → ℕ
 place_out output.Nothing = 0

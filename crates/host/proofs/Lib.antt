@@ -1,4 +1,2 @@
-pub mod Commands
 pub mod Laws
-pub mod Shown
 pub mod Packing

@@ -36,7 +36,7 @@ use Rattle.host.specs.declared.numbers.Cycles.{Cycles}
 use Rattle.host.specs.declared.numbers.Place.{Place}
 use Rattle.host.specs.declared.Image.{Image}
 use Rattle.host.specs.Numbers.{mark_byte, is_set, first_at, sequence_of, cycles_of, output_of, output_place, luns_of, working_of, fail_of, copyback_of, blank_of, same_cycles, same_place, four_marks}
-use Rattle.host.specs.Image.{cycles_in, place_in, kept_in, unpacked, packed, marks_good, good, taken, put_back, reply_number, evented, event_on}
+use Rattle.host.specs.Image.{cycles_in, place_in, kept_in, unpacked, packed, marks_good, good, taken, put_back, evented, event_on}
 
 mark-back : (b : Bool) → is_set (mark_byte b) ≡ b
 mark-back true = refl
@@ -101,7 +101,7 @@ luns-back ls h =
 
 -- what is packed unpacks to itself
 pub packed-back : (t : Target) → length t.luns ≡ 4 → unpacked (packed t) ≡ t
-unfolding unpacked packed cycles_in place_in kept_in
+unfolding unpacked packed
 packed-back t h = λ j. record {
   powered = mark-back t.powered j;
   geometry = t.geometry;
@@ -150,15 +150,15 @@ marks-small t =
     (working-small t.luns)) (fail-small t.luns)) (copyback-small t.luns)
 
 packed-cycles : (t : Target) → cycles_in (packed t) ≡ cycles_of t.decoder.sequence
-unfolding cycles_in packed
+unfolding packed
 packed-cycles t = refl
 
 packed-place : (t : Target) → place_in (packed t) ≡ output_place t.decoder.output
-unfolding place_in packed
+unfolding packed
 packed-place t = refl
 
 packed-kept : (t : Target) → kept_in (packed t) ≡ output_place t.decoder.kept
-unfolding kept_in packed
+unfolding packed
 packed-kept t = refl
 
 -- what an output packs to is what it packs to again
@@ -241,7 +241,7 @@ pub record FourOfEach (i : Image) : Type 0 where
 
 -- what can be unpacked packs back to itself
 pub image-back : (i : Image) → FourOfEach i → good i ≡ true → packed (unpacked i) ≡ i
-unfolding good marks_good packed unpacked cycles_in place_in kept_in
+unfolding good marks_good packed unpacked
 image-back i l h =
     let g = both4 (marks_good i) (same_cycles (cycles_in i) (cycles_of (sequence_of (cycles_in i)))) (same_place (place_in i) (output_place (output_of (place_in i)))) (same_place (kept_in i) (output_place (output_of (kept_in i)))) h in
     let cycles = sym (same-cycles (cycles_in i) (cycles_of (sequence_of (cycles_in i))) g.1) in
@@ -288,7 +288,6 @@ image-back i l h =
 
 -- a record that is taken out and put back unchanged is as it was, whatever its numbers
 pub kept-image : (i : Image) → FourOfEach i → put_back i (taken i) ≡ i
-unfolding put_back taken
 kept-image i l = by (good i) refl where
   by : (b : Bool) → good i ≡ b → put_back i (taken i) ≡ i
   by true e = ap (λ (g : Bool). pick g (packed (pick g (unpacked i) unpowered)) i) e ∙ image-back i l e
@@ -300,14 +299,13 @@ module _ (i : Image) (page : List ℕ) (b : Buffers) (flags : List ℕ) (l : Fou
   Usable t = usable t (length page) (length b.array) (length b.registers) (length b.counts) (length flags)
 
   pub kept-event : (kind value : ℕ) → Usable (taken i) ≡ false → event_on i kind value page b flags ≡ record { answer = 525; image = i; buffers = b }
-  unfolding event_on step_of reply_number
+  unfolding step_of
   kept-event kind value h =
       ap (λ (g : Bool). evented i (pick g (steady (taken i) (record { kind = kind; value = value }) page b flags) (record { reply = reply.Refused refusal.NotUsable; target = taken i; buffers = b }))) h
       ∙ (λ j. record { answer = 525; image = kept-image i l j; buffers = b })
 
   -- numbers that no record packs to are never usable
   pub bad-taken : good i ≡ false → taken i ≡ unpowered
-  unfolding taken
   bad-taken h = ap (λ (g : Bool). pick g (unpacked i) unpowered) h
 
   bad-unusable : Usable unpowered ≡ false

@@ -1,5 +1,5 @@
 -- A target's record for a host, all plain numbers, and what the exported functions do with it.
-use Rattle.std.specs.Prelude.{ℕ, ◌+◌, ◌*◌, ◌%◌, Bool, ◌&&◌, List, leb}
+use Rattle.std.specs.Prelude.{◌≡◌, true, false, Result, MatchResult, Option, Some, None, ℕ, ◌+◌, ◌*◌, ◌%◌, Bool, ◌&&◌, List, leb}
 use Rattle.target.specs.Pick.{pick}
 use Rattle.target.specs.Numbers.{reply_first, reply_second}
 use Rattle.target.specs.declared.Target.{Target}
@@ -14,10 +14,11 @@ use Rattle.unread.specs.declared.Unread.{Unread}
 use Rattle.host.specs.declared.numbers.Cycles.{Cycles}
 use Rattle.host.specs.declared.numbers.Place.{Place}
 use Rattle.host.specs.declared.Image.{Image}
+use Rattle.host.specs.declared.NotPacked.{NotPacked}
 use Rattle.host.specs.Numbers.{mark_byte, is_set, sequence_of, cycles_of, output_of, output_place, luns_of, working_of, fail_of, copyback_of, blank_of, same_cycles, same_place, four_marks}
 
 -- the numbers of the open sequence, of the output and of the output that was kept
-unfoldable pub cycles_in : Image → Cycles
+abbrev pub cycles_in : Image → Cycles
 cycles_in i = record {
   kind = i.sequence;
   first = i.first;
@@ -29,10 +30,10 @@ cycles_in i = record {
   row = i.row;
 }
 
-unfoldable pub place_in : Image → Place
+abbrev pub place_in : Image → Place
 place_in i = record { kind = i.output; lun = i.output_lun; at = i.output_at }
 
-unfoldable pub kept_in : Image → Place
+abbrev pub kept_in : Image → Place
 kept_in i = record { kind = i.kept; lun = i.kept_lun; at = i.kept_at }
 
 -- the record that the numbers stand for
@@ -117,16 +118,20 @@ good i =
     && same_place (place_in i) (output_place (output_of (place_in i)))
     && same_place (kept_in i) (output_place (output_of (kept_in i)))
 
+-- what comes of taking the record from the numbers: it, or that no record packs to them
+abbrev pub Unpacks : Image → Result Target NotPacked → Type 0
+Unpacks i outcome = MatchResult outcome (λ t. (good i ≡ true) × (t ≡ unpacked i)) (λ _. good i ≡ false)
+
 -- numbers that no record packs to stand for a target that is not powered, of which every event is refused 13 ..
-unfoldable pub taken : Image → Target
+abbrev pub taken : Image → Target
 taken i = pick (good i) (unpacked i) unpowered
 
 -- .. and stay as they are
-unfoldable pub put_back : Image → Target → Image
+abbrev pub put_back : Image → Target → Image
 put_back i t = pick (good i) (packed t) i
 
 -- a reply as one number: its first byte times 256, and its second
-unfoldable pub reply_number : Reply → ℕ
+abbrev pub reply_number : Reply → ℕ
 reply_number r = reply_first r * 256 + reply_second r
 
 -- one event
@@ -138,7 +143,7 @@ pub record HostEvent : Type 0 where
 abbrev pub evented : Image → Outcome → HostEvent
 evented i o = record { answer = reply_number o.reply; image = put_back i o.target; buffers = o.buffers }
 
-unfoldable pub event_on : Image → ℕ → ℕ → List ℕ → Buffers → List ℕ → HostEvent
+abbrev pub event_on : Image → ℕ → ℕ → List ℕ → Buffers → List ℕ → HostEvent
 event_on i kind value page b flags = evented i (step_of (taken i) (record { kind = kind; value = value }) page b flags)
 
 -- a byte trace
@@ -151,7 +156,7 @@ pub record HostTrace : Type 0 where
 abbrev pub traced : Image → Traced → HostTrace
 traced i o = record { answer = run_number o.answer; image = put_back i o.target; buffers = o.buffers; room = o.room }
 
-unfoldable pub trace_on : Image → List ℕ → List ℕ → List ℕ → Buffers → List ℕ → HostTrace
+abbrev pub trace_on : Image → List ℕ → List ℕ → List ℕ → Buffers → List ℕ → HostTrace
 trace_on i records room page b flags = traced i (trace_of (taken i) records room page b flags)
 
 -- power-on: whatever the record held before
@@ -163,17 +168,17 @@ pub record HostPower : Type 0 where
 abbrev pub powered : Powering → HostPower
 powered o = record { answer = power_number o.answer; image = packed o.target; registers = o.registers }
 
-unfoldable pub power_with : List ℕ → ℕ → List ℕ → List ℕ → List ℕ → List ℕ → HostPower
+abbrev pub power_with : List ℕ → ℕ → List ℕ → List ℕ → List ℕ → List ℕ → HostPower
 power_with page device array registers counts flags = powered (power_of page device array registers counts flags)
 
--- where the unread rest lies: the buffer times 2^60, where it starts times 2^30, and how long it is
+-- where the unread rest lies: 0 where there is none, else the buffer times 2^60, where it starts times 2^30, and how long it is
 abbrev pub source_number : Source → ℕ
-source_number source.Nothing = 0
 source_number source.Registers = 1
 source_number source.Parameters = 2
 
-unfoldable pub rest_number : Unread → ℕ
-rest_number u = source_number u.source * 1152921504606846976 + u.at % 1073741824 * 1073741824 + u.count % 1073741824
+abbrev pub rest_number : Option Unread → ℕ
+rest_number None = 0
+rest_number (Some u) = source_number u.source * 1152921504606846976 + u.at % 1073741824 * 1073741824 + u.count % 1073741824
 
-unfoldable pub rest_on : Image → ℕ → ℕ → ℕ
+abbrev pub rest_on : Image → ℕ → ℕ → ℕ
 rest_on i page registers = rest_number (unread_of (taken i) page registers)

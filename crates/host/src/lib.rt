@@ -8,14 +8,12 @@ pub mod numbers;
 pub mod whole_jobs;
 
 ghost use Rattle.std.specs.Prelude.{◌≡◌, length};
-ghost use Rattle.host.specs.Image.{cycles_in, place_in, kept_in, unpacked, image_from, packed, marks_good, good, taken, put_back, reply_number, HostEvent, event_on, HostTrace, trace_on, HostPower, power_with, source_number, rest_number, rest_on};
+ghost use Rattle.host.specs.Image.{cycles_in, place_in, kept_in, unpacked, packed, marks_good, good, Unpacks, taken, put_back, reply_number, HostEvent, event_on, HostTrace, trace_on, HostPower, power_with, source_number, rest_number, rest_on};
 
 use numbers::{
-    Cycles, Place, four_marks, is_set, mark_byte, of_blank, of_copyback, of_fail, of_output,
-    of_sequence, of_working, same_cycles, same_place, to_luns, to_output, to_sequence,
+    Cycles, Place, four_marks, same_cycles, same_place, to_luns, to_output, to_sequence,
 };
-use power::{power_number, unpowered};
-use step::Stepped;
+use power::unpowered;
 use target::{Decoder, Event, Geometry, Ids, Reply, Target, Words, reply_first, reply_second};
 use trace::run_number;
 use unread::{Source, Unread, unread_part};
@@ -94,130 +92,111 @@ pub fn kept_in(i: Image) -> Place
     }
 }
 
-// The record that the numbers stand for.
+// The record that the numbers stand for; those that no record packs to are read as some record all the same.
 pub fn unpack(i: Image) -> Target
     ensures { result ≡ unpacked i }
 {
-    let geometry = Geometry {
-        bytes: i.data_bytes,
-        spare: i.spare_bytes,
-        pages: i.pages,
-        blocks: i.blocks,
-        luns: i.luns,
-        programs: i.programs,
-    };
-    let words = Words {
-        features: i.features,
-        optional: i.optional_commands,
-    };
-    let ids = Ids {
-        maker: i.maker,
-        device: i.device,
-    };
-    let working = i.working;
-    let fail = i.fail;
-    let copyback = i.copyback;
-    let blank = i.blank;
-    let luns = to_luns(working, fail, copyback, blank);
-    let sequence = to_sequence(cycles_in(i));
-    let output = to_output(place_in(i));
-    let kept = to_output(kept_in(i));
-    let decoder = Decoder {
-        sequence,
-        output,
-        kept,
-    };
     Target {
-        powered: is_set(i.powered),
-        geometry,
-        words,
-        ids,
-        high: is_set(i.high),
-        clear: is_set(i.clear),
-        seen: is_set(i.seen),
+        powered: i.powered == 1,
+        geometry: Geometry {
+            bytes: i.data_bytes,
+            spare: i.spare_bytes,
+            pages: i.pages,
+            blocks: i.blocks,
+            luns: i.luns,
+            programs: i.programs,
+        },
+        words: Words {
+            features: i.features,
+            optional: i.optional_commands,
+        },
+        ids: Ids {
+            maker: i.maker,
+            device: i.device,
+        },
+        high: i.high == 1,
+        clear: i.clear == 1,
+        seen: i.seen == 1,
         selected: i.selected,
-        luns,
-        decoder,
+        luns: to_luns(i.working, i.fail, i.copyback, i.blank),
+        decoder: Decoder {
+            sequence: to_sequence(cycles_in(i)),
+            output: to_output(place_in(i)),
+            kept: to_output(kept_in(i)),
+        },
     }
 }
 
-fn image_from(t: Target, c: Cycles, p: Place, k: Place) -> Image
-    ensures { result ≡ image_from t c p k }
-{
-    let g = t.geometry;
-    let words = t.words;
-    let ids = t.ids;
-    let luns = t.luns;
-    let working = of_working(luns);
-    let fail = of_fail(luns);
-    let copyback = of_copyback(luns);
-    let blank = of_blank(luns);
-    Image {
-        data_bytes: g.bytes,
-        spare_bytes: g.spare,
-        features: words.features,
-        optional_commands: words.optional,
-        pages: g.pages,
-        blocks: g.blocks,
-        luns: g.luns,
-        programs: g.programs,
-        selected: t.selected,
-        column: c.column,
-        row: c.row,
-        output_lun: p.lun,
-        output_at: p.at,
-        kept_lun: k.lun,
-        kept_at: k.at,
-        powered: mark_byte(t.powered),
-        high: mark_byte(t.high),
-        clear: mark_byte(t.clear),
-        seen: mark_byte(t.seen),
-        working,
-        fail,
-        maker: ids.maker,
-        device: ids.device,
-        sequence: c.kind,
-        first: c.first,
-        got: c.got,
-        low: c.low,
-        mid: c.mid,
-        value: c.value,
-        output: p.kind,
-        copyback,
-        kept: k.kind,
-        blank,
-    }
-}
+// The numbers of a record.
+impl From<Target> for Image {
+    ghost from_gives = { λ t i. i ≡ packed t };
 
-pub fn pack(t: Target) -> Image
-    ensures { result ≡ packed t }
-{
-    let d = t.decoder;
-    let s = d.sequence;
-    let o = d.output;
-    let kept = d.kept;
-    let c = of_sequence(s);
-    let p = of_output(o);
-    let k = of_output(kept);
-    image_from(t, c, p, k)
+    fn from(t: Target) -> Image {
+        let c = Cycles::from(t.decoder.sequence);
+        let p = Place::from(t.decoder.output);
+        let k = Place::from(t.decoder.kept);
+        let [l0, l1, l2, l3] = t.luns;
+        Image {
+            data_bytes: t.geometry.bytes,
+            spare_bytes: t.geometry.spare,
+            features: t.words.features,
+            optional_commands: t.words.optional,
+            pages: t.geometry.pages,
+            blocks: t.geometry.blocks,
+            luns: t.geometry.luns,
+            programs: t.geometry.programs,
+            selected: t.selected,
+            column: c.column,
+            row: c.row,
+            output_lun: p.lun,
+            output_at: p.at,
+            kept_lun: k.lun,
+            kept_at: k.at,
+            powered: t.powered as u8,
+            high: t.high as u8,
+            clear: t.clear as u8,
+            seen: t.seen as u8,
+            working: [
+                l0.working as u8,
+                l1.working as u8,
+                l2.working as u8,
+                l3.working as u8,
+            ],
+            fail: [l0.fail as u8, l1.fail as u8, l2.fail as u8, l3.fail as u8],
+            maker: t.ids.maker,
+            device: t.ids.device,
+            sequence: c.kind,
+            first: c.first,
+            got: c.got,
+            low: c.low,
+            mid: c.mid,
+            value: c.value,
+            output: p.kind,
+            copyback: [
+                l0.copyback as u8,
+                l1.copyback as u8,
+                l2.copyback as u8,
+                l3.copyback as u8,
+            ],
+            kept: k.kind,
+            blank: [l0.blank, l1.blank, l2.blank, l3.blank],
+        }
+    }
 }
 
 fn marks_good(i: Image) -> bool
     ensures { result ≡ marks_good i }
 {
-    let working = i.working;
-    let fail = i.fail;
-    let copyback = i.copyback;
     (i.powered <= 1)
         & (i.high <= 1)
         & (i.clear <= 1)
         & (i.seen <= 1)
-        & four_marks(working)
-        & four_marks(fail)
-        & four_marks(copyback)
+        & four_marks(i.working)
+        & four_marks(i.fail)
+        & four_marks(i.copyback)
 }
 
-// The numbers are those that some record packs to.
+// The numbers are those that some record packs to. Only what might not be is compared, since a single call waits for it.
 pub fn good(i: Image) -> bool
     ensures { result ≡ good i }
 {
@@ -225,24 +204,46 @@ pub fn good(i: Image) -> bool
     let p = place_in(i);
     let k = kept_in(i);
     marks_good(i)
-        & same_cycles(c, of_sequence(to_sequence(c)))
-        & same_place(p, of_output(to_output(p)))
-        & same_place(k, of_output(to_output(k)))
+        & same_cycles(c, Cycles::from(to_sequence(c)))
+        & same_place(p, Place::from(to_output(p)))
+        & same_place(k, Place::from(to_output(k)))
+}
+
+// No record packs to these numbers.
+#[derive(Clone, Copy)]
+pub struct NotPacked;
+
+// The record that packs to the numbers.
+impl TryFrom<Image> for Target {
+    type Error = NotPacked;
+
+    ghost try_from_gives = { Unpacks };
+
+    fn try_from(i: Image) -> Result<Target, NotPacked> {
+        if good(i) {
+            Ok(unpack(i))
+        } else {
+            Err(NotPacked)
+        }
+    }
 }
 
 // What the numbers stand for. Whether they are good is asked once an event.
-fn take(ok: bool, i: Image) -> Target
-    requires { ok ≡ good i }
+fn take(known: Result<Target, NotPacked>, i: Image) -> Target
+    requires { Unpacks i known }
     ensures { result ≡ taken i }
 {
-    if ok { unpack(i) } else { unpowered() }
+    known.unwrap_or(unpowered())
 }
 
-fn put_back(ok: bool, i: Image, t: Target) -> Image
-    requires { ok ≡ good i }
+fn put_back(known: Result<Target, NotPacked>, i: Image, t: Target) -> Image
+    requires { Unpacks i known }
     ensures { result ≡ put_back i t }
 {
-    if ok { pack(t) } else { i }
+    match known {
+        Ok(_) => Image::from(t),
+        Err(NotPacked) => i,
+    }
 }
 
 pub fn reply_number(a: Reply) -> u32
@@ -274,13 +275,11 @@ pub fn event_on(
         (event_on i kind value page.now (record { array = array.old; registers = registers.old; counts = counts.old }) flags.now) }
 {
     let e = Event { kind, value };
-    let ok = good(i);
-    let s = step::step(take(ok, i), e, page, array, registers, counts, flags);
-    let reply = s.reply;
-    let next = s.target;
+    let known = Target::try_from(i);
+    let s = step::step(take(known, i), e, page, array, registers, counts, flags);
     Answered {
-        answer: reply_number(reply),
-        image: put_back(ok, i, next),
+        answer: reply_number(s.reply),
+        image: put_back(known, i, s.target),
     }
 }
 
@@ -299,22 +298,12 @@ pub fn trace_on(
         (record { answer = result.answer; image = result.image; buffers = record { array = array.new; registers = registers.new; counts = counts.new }; room = replies.new })
         (trace_on i records.now replies.old page.now (record { array = array.old; registers = registers.old; counts = counts.old }) flags.now) }
 {
-    let ok = good(i);
-    let s = trace::run(
-        take(ok, i),
-        records,
-        replies,
-        page,
-        array,
-        registers,
-        counts,
-        flags,
-    );
-    let answer = s.answer;
-    let next = s.target;
+    let known = Target::try_from(i);
+    let t = take(known, i);
+    let outcome = trace::run(t, records, replies, page, array, registers, counts, flags);
     Answered {
-        answer: run_number(answer) as u32,
-        image: put_back(ok, i, next),
+        answer: run_number(outcome) as u32,
+        image: put_back(known, i, outcome.unwrap_or(t)),
     }
 }
 
@@ -331,12 +320,15 @@ pub fn power_with(
         (record { answer = result.answer; image = result.image; registers = registers.new })
         (power_with page.now device array.now registers.old counts.now flags.now) }
 {
-    let s = power::power_on(page, device, array, registers, counts, flags);
-    let answer = s.answer;
-    let next = s.target;
-    Answered {
-        answer: power_number(answer) as u32,
-        image: pack(next),
+    match power::power_on(page, device, array, registers, counts, flags) {
+        Ok(next) => Answered {
+            answer: 0,
+            image: Image::from(next),
+        },
+        Err(e) => Answered {
+            answer: e.why.number() as u32,
+            image: Image::from(e.target),
+        },
     }
 }
 
@@ -344,26 +336,30 @@ fn source_number(s: Source) -> u64
     ensures { result ≡ source_number s }
 {
     match s {
-        Source::Nothing => 0,
         Source::Registers => 1,
         Source::Parameters => 2,
     }
 }
 
-pub fn rest_number(u: Unread) -> u64
-    ensures { result ≡ rest_number u }
+pub fn rest_number(rest: Option<Unread>) -> u64
+    ensures { result ≡ rest_number rest }
 {
-    let source = u.source;
-    source_number(source) * 1152921504606846976
-        + ((u.at as u64) % 1073741824) * 1073741824
-        + (u.count as u64) % 1073741824
+    match rest {
+        None => 0,
+        Some(u) => {
+            source_number(u.source) * 1152921504606846976
+                + ((u.at as u64) % 1073741824) * 1073741824
+                + (u.count as u64) % 1073741824
+        }
+    }
 }
 
 // Where the unread rest lies, by value.
 pub fn rest_on(i: Image, page: usize, registers: usize) -> u64
     ensures { result ≡ rest_on i page registers }
 {
-    rest_number(unread_part(take(good(i), i), page, registers))
+    let known = Target::try_from(i);
+    rest_number(unread_part(take(known, i), page, registers))
 }
 
 // One event on a record that the host lends: the first reply byte times 256, and the second.

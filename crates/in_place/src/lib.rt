@@ -2,14 +2,14 @@
 // function over one is as thin as it can be. `step_lent` and `run_some` hold the record and the events themselves.
 #![tactic(auto)]
 
-ghost use Rattle.std.specs.Prelude.{◌≡◌, ◌+◌, ◌*◌, ◌<◌, min, length, take};
+ghost use Rattle.std.specs.Prelude.{◌≡◌, ◌+◌, ◌*◌, ◌<◌, length, take};
 ghost use Rattle.step.specs.Step.{Outcome, step_of};
-ghost use Rattle.trace.specs.Run.{Running, one_more, Traced, batch_of};
+ghost use Rattle.trace.specs.Run.{Running, one_more, came_to, batch_of};
 ghost use Rattle.in_place.specs.Plan.{plan_of};
 
 use step::Stepped;
 use target::{Event, Reply, Target};
-use trace::{Ran, RunAnswer, put_reply};
+use trace::{RunRefusal, put_reply};
 
 // One event over a record that is lent: it is taken out, stepped by value, and stored back.
 pub fn step_in_place(
@@ -68,35 +68,22 @@ fn run_one(
         e) }
 {
     let s = step::step(t, e, params, array, registers, counts, flags);
-    let reply = s.reply;
-    put_reply(replies, i, reply);
+    put_reply(replies, i, s.reply);
     s.target
 }
 
-// What a batch answers, and how many of its events are run: all or none.
-#[derive(Clone, Copy)]
-pub struct Plan {
-    pub answer: RunAnswer,
-    pub count: usize,
-}
-
-pub fn batch_plan(events: usize, room: usize) -> Plan
+// How many events of a batch are run: all of them, or none.
+pub fn batch_plan(events: usize, room: usize) -> Result<usize, RunRefusal>
     ensures { result ≡ plan_of events room }
 {
     if room / 2 < events {
-        Plan {
-            answer: RunAnswer::NoRoom,
-            count: 0,
-        }
-    } else {
-        Plan {
-            answer: RunAnswer::Done,
-            count: events,
-        }
+        return Err(RunRefusal::NoRoom);
     }
+    Ok(events)
 }
 
-// A batch of events that are held as records. If the room is too short for all replies, it is refused and nothing changes.
+// A batch of events that are held as records, and the target after it. If the room is too short for all replies, it is refused
+// and nothing changes.
 pub fn run_batch(
     mut t: Target,
     events: &[Event],
@@ -106,30 +93,17 @@ pub fn run_batch(
     counts: &mut [u8],
     flags: &[u8],
     replies: &mut [u8],
-) -> Ran
-    ensures { ◌≡◌ {A = Traced}
-        (record { answer = result.answer; target = result.target; buffers = record { array = array.new; registers = registers.new; counts = counts.new }; room = replies.new })
-        (batch_of t events.now replies.old params.now (record { array = array.old; registers = registers.old; counts = counts.old }) flags.now) }
+) -> Result<Target, RunRefusal>
+    ensures { came_to t result (record { array = array.new; registers = registers.new; counts = counts.new }) replies.new
+        ≡ batch_of t events.now replies.old params.now (record { array = array.old; registers = registers.old; counts = counts.old }) flags.now }
 {
-    let plan = batch_plan(events.len(), replies.len());
-    let mut i: usize = 0;
-    while i < plan.count {
+    batch_plan(events.len(), replies.len())?;
+    for (i, &event) in events.iter().enumerate() {
         t = run_one(
-            t, events[i], i, params, array, registers, counts, flags, replies,
+            t, event, i, params, array, registers, counts, flags, replies,
         );
-        i += 1;
     }
-    Ran {
-        answer: plan.answer,
-        target: t,
-    }
-}
-
-// The lesser of the two.
-fn lesser(n: usize, size: usize) -> usize
-    ensures { result ≡ min n size }
-{
-    if size < n { size } else { n }
+    Ok(t)
 }
 
 // Events that a program holds itself.
@@ -146,12 +120,11 @@ pub fn run_some(
     counts: &mut [u8],
     flags: &[u8],
     replies: &mut [u8],
-) -> Ran
-    ensures { ◌≡◌ {A = Traced}
-        (record { answer = result.answer; target = result.target; buffers = record { array = array.new; registers = registers.new; counts = counts.new }; room = replies.new })
-        (batch_of t (take n events) replies.old params.now (record { array = array.old; registers = registers.old; counts = counts.old }) flags.now) }
+) -> Result<Target, RunRefusal>
+    ensures { came_to t result (record { array = array.new; registers = registers.new; counts = counts.new }) replies.new
+        ≡ batch_of t (take n events) replies.old params.now (record { array = array.old; registers = registers.old; counts = counts.old }) flags.now }
 {
-    let k = lesser(n, 64);
+    let k = n.min(64);
     run_batch(
         t,
         &events[..k],

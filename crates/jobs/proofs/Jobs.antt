@@ -4,7 +4,7 @@ use mathlib.Core.Path.{◌≡◌, refl, sym, ap, ◌∙◌}
 use mathlib.Core.List.{List, [], ◌∷◌, ◌++◌, map}
 use Prim.Native.Nat.{ℕ, ◌+◌, ◌*◌}
 use native.Mathlib.Omega.{arith}
-use lib.ListN.{length, set, length-append, length-set}
+use lib.ListN.{length, set, length-append}
 use lib.Seq.{sets}
 use Rattle.jobs.specs.declared.Job.TheVariants.{Read, ReadOut, Program, Erase, Status}
 use Rattle.jobs.specs.Cycles.{command, data_in, column_bytes, row_bytes, bytes_of}
@@ -38,13 +38,6 @@ erase-size r bytes = refl
 pub status-size : (r n : ℕ) (bytes : List ℕ) → length (records_of (Status r n) bytes) ≡ 8 + 2 * n
 unfolding records_of
 status-size r n bytes = omega (arith, out-size n)
-
--- the room keeps its length
-pub read-out-same : (all head room : List ℕ) → length all ≡ length (set (set head 12 0) 13 0xe0) → length head ≡ length room → length all ≡ length room
-read-out-same all head room e f = e ∙ length-set (set head 12 0) 13 0xe0 ∙ length-set head 12 0 ∙ f
-
-pub status-same : (all head room : List ℕ) → length all ≡ length head → length head ≡ length room → length all ≡ length room
-status-same all head room e f = e ∙ f
 
 module _ (room head : List ℕ) where
   pub read-put : (c r : ℕ) → head ≡ sets room 0 (head_long 0x00 (column_bytes c) (row_bytes r)) → set (set head 12 0) 13 0x30 ≡ sets room 0 (records_of (Read c r) [])

@@ -1,21 +1,22 @@
 -- The room as records are put into it, two bytes at a time.
 --     sets-append           stores after stores
 --     turn                  one record more, where a loop stands
---     data-none .. outs-end the loops over data in and data out
+--     data-turn, outs-turn  the loops over data in and data out
 --     laid-small, laid-whole   what a writer answers and leaves, where the room is too small and where it is not
 -- Assumes nothing.
 use mathlib.Core.Path.{◌≡◌, refl, sym, ap, ◌∙◌}
-use mathlib.Core.Bool.{Bool, true, false}
+use mathlib.Core.Bool.{true}
 use mathlib.Core.List.{List, [], ◌∷◌, ◌++◌}
-use Prim.Native.Nat.{ℕ, zero, suc, ◌+◌, ◌-◌, ◌*◌, ◌/◌, ◌≤◌, ◌<◌}
+use Prim.Native.Nat.{ℕ, zero, suc, ◌+◌, ◌*◌, ◌≤◌, ◌<◌}
 use native.Mathlib.Nat.{not-suc-le-zero, le_of_suc-le-suc}
 use native.Mathlib.Numerals.{add-one}
 use native.Mathlib.Omega.{arith}
 use lib.ListN.{length, take, drop, get_or, set}
-use lib.Seq.{sets, sets-eq, length-sets, take_all}
+use lib.Seq.{sets, sets-eq, length-sets}
 use lib.Dec.{ltb}
-use borrow.Author.Tests.{lt-ltb, le-ltb, ltb-true, ltb-false}
-use Rattle.jobs.specs.declared.writing.Answer.TheVariants.{TooSmall, Written}
+use borrow.Author.Tests.{le-ltb}
+use Rattle.std.specs.Prelude.{Ok, Err}
+use Rattle.jobs.specs.declared.writing.Unwritten.TheVariants.{TooSmall}
 use Rattle.jobs.specs.Cycles.{Cycle, command, address, data_in, data_out, bytes_of}
 use Rattle.jobs.specs.Writing.{data_records, out_records, Wrote, laid}
 
@@ -79,9 +80,6 @@ data-turn old at bytes room k d h =
       same = ap length put ∙ length-sets old at (data_records (take (suc k) bytes));
     }
 
-pub data-end : (old : List ℕ) (at : ℕ) (bytes room : List ℕ) (k : ℕ) → Data old at bytes room k → length bytes ≤ k → room ≡ sets old at (data_records bytes)
-data-end old at bytes room k d h = d.put ∙ ap (λ (l : List ℕ). sets old at (data_records l)) (take_all k bytes h)
-
 pub record Outs (old : List ℕ) (at : ℕ) (count : ℕ) (room : List ℕ) (k : ℕ) : Type 0 where
   pub put : room ≡ sets old at (out_records k)
   pub within : k ≤ count
@@ -98,30 +96,12 @@ outs-turn old at count room k d h =
       same = ap length put ∙ length-sets old at (out_records (suc k));
     }
 
-pub outs-end : (old : List ℕ) (at count : ℕ) (room : List ℕ) (k : ℕ) → Outs old at count room k → count ≤ k → room ≡ sets old at (out_records count)
-outs-end old at count room k d h =
-    let e : k ≡ count = omega arith in
-    d.put ∙ ap (λ (n : ℕ). sets old at (out_records n)) e
-
--- the room is compared by division
-pub by-half : (room fixed n : ℕ) → fixed ≤ room → ltb ((room - fixed) / 2) n ≡ ltb room (fixed + 2 * n)
-by-half room fixed n h = side (ltb ((room - fixed) / 2) n) refl where
-  side : (b : Bool) → ltb ((room - fixed) / 2) n ≡ b → ltb ((room - fixed) / 2) n ≡ ltb room (fixed + 2 * n)
-  side true e =
-      let below : (room - fixed) / 2 < n = ltb-true _ _ e in
-      let small : room < fixed + 2 * n = omega arith in
-      e ∙ sym (lt-ltb _ _ small)
-  side false e =
-      let above : n ≤ (room - fixed) / 2 = ltb-false _ _ e in
-      let large : fixed + 2 * n ≤ room = omega arith in
-      e ∙ sym (le-ltb _ _ large)
-
 -- a writer's whole answer
-pub laid-small : (records room : List ℕ) (n : ℕ) → length records ≡ n → ltb (length room) n ≡ true → ◌≡◌ {A = Wrote} (record { answer = TooSmall; room = room }) (laid records room)
+pub laid-small : (records room : List ℕ) (n : ℕ) → length records ≡ n → ltb (length room) n ≡ true → ◌≡◌ {A = Wrote} (record { answer = Err TooSmall; room = room }) (laid records room)
 unfolding laid
 laid-small records room n size h = rw (size, h)
 
-pub laid-whole : (records room new : List ℕ) (n : ℕ) → length records ≡ n → n ≤ length room → new ≡ sets room 0 records → ◌≡◌ {A = Wrote} (record { answer = Written n; room = new }) (laid records room)
+pub laid-whole : (records room new : List ℕ) (n : ℕ) → length records ≡ n → n ≤ length room → new ≡ sets room 0 records → ◌≡◌ {A = Wrote} (record { answer = Ok n; room = new }) (laid records room)
 unfolding laid
 laid-whole records room new n size h same =
     let e : 0 + n ≡ n = omega arith in

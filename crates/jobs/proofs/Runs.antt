@@ -153,11 +153,11 @@ module _ (kind : ℕ) (t : List ℕ) (at most k : ℕ) (c : Counting kind t at m
   pub counting-stop : 2 * (at + most) ≤ length t → k < most → of_kind kind (get_or t (2 * (at + k)) 0) (get_or t (2 * (at + k) + 1) 0) ≡ false → (k ≡ run most kind (drop (2 * at) t)) × (k ≤ most)
   counting-stop room below e = (omega (arith, c.same, run-stop kind t at most k room below e), c.within)
 
-  pub counting-end : most ≤ k → (k ≡ run most kind (drop (2 * at) t)) × (k ≤ most)
+  pub counting-end : most ≤ k → (most ≡ run most kind (drop (2 * at) t)) × (most ≤ most)
   counting-end h =
       let none : most - k ≡ 0 = omega arith in
       let last : run (most - k) kind (drop (2 * (at + k)) t) ≡ 0 = rw (none) (run_none kind (drop (2 * (at + k)) t)) in
-      (omega (arith, c.same, last), c.within)
+      (omega (arith, c.same, last, c.within), omega arith)
 
 pub counted-from : (kind : ℕ) (t : List ℕ) (at most m k : ℕ) → at ≤ length t / 2 → m ≡ min most (length t / 2 - at) → (k ≡ run m kind (drop (2 * at) t)) × (k ≤ m)
     → (k ≡ run most kind (drop (2 * at) t)) × (at + k ≤ length t / 2) × (k ≤ most)

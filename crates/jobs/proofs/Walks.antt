@@ -13,28 +13,24 @@ use lib.ListN.{length, drop, get_or, length-drop, drop_of_length-le}
 use lib.Seq.{drop-drop, drop-cons}
 use lib.Dec.{eqb}
 use Rattle.target.specs.Pick.{pick}
-use Rattle.jobs.specs.declared.Job.{Job}
+use Rattle.std.specs.Prelude.{Option, None, Some, Result, Ok, Err}
 use Rattle.jobs.specs.declared.reading.First.{First}
 use Rattle.jobs.specs.declared.reading.First.TheVariants as first
-use Rattle.jobs.specs.declared.reading.Reached.{Reached}
-use Rattle.jobs.specs.declared.reading.Reached.TheVariants as reached
-use Rattle.jobs.specs.declared.reading.Found.{Found}
-use Rattle.jobs.specs.declared.reading.Found.TheVariants as found
-use Rattle.jobs.specs.declared.reading.Listed.{Listed}
-use Rattle.jobs.specs.declared.reading.Listed.TheVariants as listed
-use Rattle.jobs.specs.Reading.{Item, address, command, data_ins, data_outs, addresses, item_if, closed_items, open_items, items, of_kind, run, many_of, is_kind, is_command, through, found_of, begun_of, beginning, job_from, job_at, stuck, on, begun, step, onward, walk, first_misfit}
+use Rattle.jobs.specs.declared.reading.Misfit.{Misfit}
+use Rattle.jobs.specs.declared.reading.FoundJob.{FoundJob}
+use Rattle.jobs.specs.Reading.{Item, address, command, data_ins, data_outs, addresses, item_if, closed_items, open_items, items, of_kind, run, many_of, is_kind, is_command, through, misfit, grouped_of, found_of, begun_of, beginning, job_from, job_at, stuck, on, begun, step, onward, walk, first_misfit}
 use Rattle.jobs.proofs.Runs.{record-at, later, next, run_short, run-enough, run-within, two-of-kind, two-of-command}
 
 -- through, item by item
-pub through-address : (is : List Item) (ts : List ℕ) (at : ℕ) → through (address ∷ is) ts at ≡ pick (is_kind 1 ts) (through is (drop 2 ts) (at + 1)) (reached.Stops at)
+pub through-address : (is : List Item) (ts : List ℕ) (at : ℕ) → through (address ∷ is) ts at ≡ pick (is_kind 1 ts) (through is (drop 2 ts) (at + 1)) (Err (misfit at))
 unfolding through
 through-address is ts at = refl
 
-pub through-command : (b : ℕ) (is : List Item) (ts : List ℕ) (at : ℕ) → through (command b ∷ is) ts at ≡ pick (is_command b ts) (through is (drop 2 ts) (at + 1)) (reached.Stops at)
+pub through-command : (b : ℕ) (is : List Item) (ts : List ℕ) (at : ℕ) → through (command b ∷ is) ts at ≡ pick (is_command b ts) (through is (drop 2 ts) (at + 1)) (Err (misfit at))
 unfolding through
 through-command b is ts at = refl
 
-pub through-none : (ts : List ℕ) (at : ℕ) → through [] ts at ≡ reached.Whole at
+pub through-none : (ts : List ℕ) (at : ℕ) → through [] ts at ≡ Ok at
 unfolding through
 through-none ts at = refl
 
@@ -72,19 +68,19 @@ first_kind most kind [] = refl
 first_kind most kind (k ∷ []) = refl
 first_kind most kind (k ∷ (v ∷ ts)) = refl
 
-pub addresses-short : (n : ℕ) (is : List Item) (ts : List ℕ) (at : ℕ) → run n 1 ts < n → through (addresses n is) ts at ≡ reached.Stops (at + run n 1 ts)
+pub addresses-short : (n : ℕ) (is : List Item) (ts : List ℕ) (at : ℕ) → run n 1 ts < n → through (addresses n is) ts at ≡ Err (misfit (at + run n 1 ts))
 addresses-short zero is ts at h = absurd (omega arith)
 addresses-short (suc n) is ts at h = side (is_kind 1 ts) refl (λ less. addresses-short n is (drop 2 ts) (at + 1) less) where
-  side : (b : Bool) → is_kind 1 ts ≡ b → (run n 1 (drop 2 ts) < n → through (addresses n is) (drop 2 ts) (at + 1) ≡ reached.Stops (at + 1 + run n 1 (drop 2 ts)))
-      → through (addresses (suc n) is) ts at ≡ reached.Stops (at + run (suc n) 1 ts)
+  side : (b : Bool) → is_kind 1 ts ≡ b → (run n 1 (drop 2 ts) < n → through (addresses n is) (drop 2 ts) (at + 1) ≡ Err (misfit (at + 1 + run n 1 (drop 2 ts))))
+      → through (addresses (suc n) is) ts at ≡ Err (misfit (at + run (suc n) 1 ts))
   side true e ih =
       let count : run (suc n) 1 ts ≡ suc (run n 1 (drop 2 ts)) = first_kind n 1 ts ∙ rw (e) in
       let place : at + 1 + run n 1 (drop 2 ts) ≡ at + run (suc n) 1 ts = omega arith in
-      through-address (addresses n is) ts at ∙ rw (e) (ih (omega arith) ∙ ap reached.Stops place)
+      through-address (addresses n is) ts at ∙ rw (e) (ih (omega arith) ∙ ap (λ (p : ℕ). Err (misfit p)) place)
   side false e ih =
       let count : run (suc n) 1 ts ≡ 0 = first_kind n 1 ts ∙ rw (e) in
       let place : at ≡ at + run (suc n) 1 ts = omega arith in
-      through-address (addresses n is) ts at ∙ rw (e) (ap reached.Stops place)
+      through-address (addresses n is) ts at ∙ rw (e) (ap (λ (p : ℕ). Err (misfit p)) place)
 
 two-and : (n : ℕ) (ts : List ℕ) → drop (2 * n) (drop 2 ts) ≡ drop (2 * suc n) ts
 two-and n ts =
@@ -107,7 +103,7 @@ addresses-all (suc n) is ts at h = side (is_kind 1 ts) refl (λ all. addresses-a
 
 -- the parts of a job, as the code goes through them
 module _ (t : List ℕ) (at n a : ℕ) (is : List Item) (count : a ≡ run n 1 (drop (2 * at) t)) where
-  pub short-of-addresses : a < n → reached.Stops (at + a) ≡ through (addresses n is) (drop (2 * at) t) at
+  pub short-of-addresses : a < n → Err (misfit (at + a)) ≡ through (addresses n is) (drop (2 * at) t) at
   short-of-addresses h = rw (count) (sym (addresses-short n is (drop (2 * at) t) at (omega arith)))
 
   pub past-addresses : n ≤ a → through (addresses n is) (drop (2 * at) t) at ≡ through is (drop (2 * (at + n)) t) (at + n)
@@ -127,11 +123,11 @@ module _ (t : List ℕ) (at n a d closing : ℕ) (takes gives : Bool) (count : a
       past-addresses t at n a (item_if takes data_ins (command closing ∷ item_if gives data_outs [])) count all
       ∙ data-past t (at + n) d takes (command closing ∷ item_if gives data_outs []) given
 
-  pub not-closed : is_command closing (drop (2 * (at + n + d)) t) ≡ false → reached.Stops (at + n + d) ≡ through (closed_items n takes closing gives) (drop (2 * at) t) at
+  pub not-closed : is_command closing (drop (2 * (at + n + d)) t) ≡ false → Err (misfit (at + n + d)) ≡ through (closed_items n takes closing gives) (drop (2 * at) t) at
   not-closed e = sym (to-closing ∙ through-command closing (item_if gives data_outs []) (drop (2 * (at + n + d)) t) (at + n + d) ∙ rw (e))
 
   pub closed : (o : ℕ) → is_command closing (drop (2 * (at + n + d)) t) ≡ true → o ≡ pick gives (many_of 3 (drop (2 * (at + n + d + 1)) t)) 0
-      → reached.Whole (at + n + d + 1 + o) ≡ through (closed_items n takes closing gives) (drop (2 * at) t) at
+      → Ok (at + n + d + 1 + o) ≡ through (closed_items n takes closing gives) (drop (2 * at) t) at
   closed o e out =
       sym
       (to-closing
@@ -140,7 +136,7 @@ module _ (t : List ℕ) (at n a d closing : ℕ) (takes gives : Bool) (count : a
       (outs-past t (at + n + d + 1) o gives [] out ∙ through-none (drop (2 * (at + n + d + 1 + o)) t) (at + n + d + 1 + o)))
 
 pub opened : (t : List ℕ) (at n a o : ℕ) → a ≡ run n 1 (drop (2 * at) t) → n ≤ a → o ≡ pick true (many_of 3 (drop (2 * (at + n)) t)) 0
-    → reached.Whole (at + n + o) ≡ through (open_items n) (drop (2 * at) t) at
+    → Ok (at + n + o) ≡ through (open_items n) (drop (2 * at) t) at
 opened t at n a o count all out =
     sym
     (past-addresses t at n a (data_outs ∷ []) count all
@@ -148,21 +144,21 @@ opened t at n a o count all out =
     ∙ through-none (drop (2 * (at + n + o)) t) (at + n + o))
 
 -- the walk, item by item
-pub walk-address : (is : List Item) (ts : List ℕ) (at : ℕ) → walk (address ∷ is) ts at ≡ pick (is_kind 1 ts) (walk is (drop 2 ts) (at + 1)) (listed.Misfit at)
+pub walk-address : (is : List Item) (ts : List ℕ) (at : ℕ) → walk (address ∷ is) ts at ≡ pick (is_kind 1 ts) (walk is (drop 2 ts) (at + 1)) (Err (misfit at))
 unfolding walk step
 walk-address is [] at = refl
 walk-address is (k ∷ []) at = refl
 walk-address is (k ∷ (v ∷ ts)) at = by-step (of_kind 1 k v) where
-  by-step : (b : Bool) → onward (pick b (on is) stuck) (listed.Misfit at) (λ js. walk js ts (at + 1)) ≡ pick b (walk is ts (at + 1)) (listed.Misfit at)
+  by-step : (b : Bool) → onward (pick b (on is) stuck) (Err (misfit at)) (λ js. walk js ts (at + 1)) ≡ pick b (walk is ts (at + 1)) (Err (misfit at))
   by-step true = refl
   by-step false = refl
 
-pub walk-command : (b : ℕ) (is : List Item) (ts : List ℕ) (at : ℕ) → walk (command b ∷ is) ts at ≡ pick (is_command b ts) (walk is (drop 2 ts) (at + 1)) (listed.Misfit at)
+pub walk-command : (b : ℕ) (is : List Item) (ts : List ℕ) (at : ℕ) → walk (command b ∷ is) ts at ≡ pick (is_command b ts) (walk is (drop 2 ts) (at + 1)) (Err (misfit at))
 unfolding walk step
 walk-command b is [] at = refl
 walk-command b is (k ∷ []) at = refl
 walk-command b is (k ∷ (v ∷ ts)) at = by-step (eqb k 0 && eqb v b) where
-  by-step : (c : Bool) → onward (pick c (on is) stuck) (listed.Misfit at) (λ js. walk js ts (at + 1)) ≡ pick c (walk is ts (at + 1)) (listed.Misfit at)
+  by-step : (c : Bool) → onward (pick c (on is) stuck) (Err (misfit at)) (λ js. walk js ts (at + 1)) ≡ pick c (walk is ts (at + 1)) (Err (misfit at))
   by-step true = refl
   by-step false = refl
 
@@ -176,7 +172,7 @@ unfolding walk
 many-none ins is at = refl
 many-none outs is at = refl
 
-pub walk-odd : (is : List Item) (k at : ℕ) → walk is (k ∷ []) at ≡ listed.Misfit at
+pub walk-odd : (is : List Item) (k at : ℕ) → walk is (k ∷ []) at ≡ Err (misfit at)
 unfolding walk
 walk-odd is k at = refl
 
@@ -221,9 +217,9 @@ walk-many {i} {kind} m is (k ∷ (v ∷ ts)) at = side (of_kind kind k v) refl (
   side false e ih = many-past m is k v ts at e ∙ rw (count_past kind k v ts e) (staying is (k ∷ (v ∷ ts)) at)
 
 -- where the walk goes on after a job's items
-abbrev after : List ℕ → Reached → Listed
-after t (reached.Stops p) = listed.Misfit p
-after t (reached.Whole p) = walk [] (drop (2 * p) t) p
+abbrev after : List ℕ → Result ℕ Misfit → Result Unit Misfit
+after t (Err m) = Err m
+after t (Ok p) = walk [] (drop (2 * p) t) p
 
 pub walk_through : (t : List ℕ) (is : List Item) (at : ℕ) → walk is (drop (2 * at) t) at ≡ after t (through is (drop (2 * at) t) at)
 walk_through t [] at = sym (ap (after t) (through-none (drop (2 * at) t) at))
@@ -233,7 +229,7 @@ walk_through t (address ∷ is) at =
     ∙ sym (ap (after t) (through-address is (drop (2 * at) t) at))
   where
     by-test : (b : Bool) → walk is (drop (2 * (at + 1)) t) (at + 1) ≡ after t (through is (drop (2 * (at + 1)) t) (at + 1))
-        → pick b (walk is (drop 2 (drop (2 * at) t)) (at + 1)) (listed.Misfit at) ≡ after t (pick b (through is (drop 2 (drop (2 * at) t)) (at + 1)) (reached.Stops at))
+        → pick b (walk is (drop 2 (drop (2 * at) t)) (at + 1)) (Err (misfit at)) ≡ after t (pick b (through is (drop 2 (drop (2 * at) t)) (at + 1)) (Err (misfit at)))
     by-test true ih = rw (next t at) ih
     by-test false ih = refl
 walk_through t (command b ∷ is) at =
@@ -242,7 +238,7 @@ walk_through t (command b ∷ is) at =
     ∙ sym (ap (after t) (through-command b is (drop (2 * at) t) at))
   where
     by-test : (c : Bool) → walk is (drop (2 * (at + 1)) t) (at + 1) ≡ after t (through is (drop (2 * (at + 1)) t) (at + 1))
-        → pick c (walk is (drop 2 (drop (2 * at) t)) (at + 1)) (listed.Misfit at) ≡ after t (pick c (through is (drop 2 (drop (2 * at) t)) (at + 1)) (reached.Stops at))
+        → pick c (walk is (drop 2 (drop (2 * at) t)) (at + 1)) (Err (misfit at)) ≡ after t (pick c (through is (drop 2 (drop (2 * at) t)) (at + 1)) (Err (misfit at)))
     by-test true ih = rw (next t at) ih
     by-test false ih = refl
 walk_through t (data_ins ∷ is) at =
@@ -255,36 +251,28 @@ walk_through t (data_outs ∷ is) at =
     ∙ sym (ap (after t) (outs-at t is at))
 
 -- and after a whole job
-abbrev pub ahead : List ℕ → Found → Listed
-ahead t found.End = listed.Jobs
-ahead t (found.Misfit p) = listed.Misfit p
-ahead t (found.Whole j d n p) = walk [] (drop (2 * p) t) p
+abbrev pub ahead : List ℕ → Result (Option FoundJob) Misfit → Result Unit Misfit
+ahead t (Ok None) = Ok tt
+ahead t (Err m) = Err m
+ahead t (Ok (Some g)) = walk [] (drop (2 * g.next) t) g.next
 
--- a job that begins with a first command
-pub data Begins : First → Type 0 where
-  read : Begins first.Read
-  read_out : Begins first.ReadOut
-  program : Begins first.Program
-  erase : Begins first.Erase
-  status : Begins first.Status
+-- a job ends where its records do
+ends_there : (f : First) (ts : List ℕ) (at p : ℕ) → (grouped_of f ts at p).next ≡ p
+ends_there first.Read ts at p = refl
+ends_there first.ReadOut ts at p = refl
+ends_there first.Program ts at p = refl
+ends_there first.Erase ts at p = refl
+ends_there first.Status ts at p = refl
 
-ahead-found : {f : First} → Begins f → (t ts : List ℕ) (at : ℕ) (r : Reached) → after t r ≡ ahead t (found_of f ts at r)
-ahead-found read t ts at (reached.Stops p) = refl
-ahead-found read t ts at (reached.Whole p) = refl
-ahead-found read_out t ts at (reached.Stops p) = refl
-ahead-found read_out t ts at (reached.Whole p) = refl
-ahead-found program t ts at (reached.Stops p) = refl
-ahead-found program t ts at (reached.Whole p) = refl
-ahead-found erase t ts at (reached.Stops p) = refl
-ahead-found erase t ts at (reached.Whole p) = refl
-ahead-found status t ts at (reached.Stops p) = refl
-ahead-found status t ts at (reached.Whole p) = refl
+ahead-found : (f : First) (t ts : List ℕ) (at : ℕ) (r : Result ℕ Misfit) → after t r ≡ ahead t (found_of f ts at r)
+ahead-found f t ts at (Err m) = refl
+ahead-found f t ts at (Ok p) = sym (ap (λ (n : ℕ). walk [] (drop (2 * n) t) n) (ends_there f ts at p))
 
-walk_first : (k v : ℕ) (ts : List ℕ) (at : ℕ) → walk [] (k ∷ (v ∷ ts)) at ≡ onward (begun (beginning k v)) (listed.Misfit at) (λ js. walk js ts (at + 1))
+walk_first : (k v : ℕ) (ts : List ℕ) (at : ℕ) → walk [] (k ∷ (v ∷ ts)) at ≡ onward (begun (beginning k v)) (Err (misfit at)) (λ js. walk js ts (at + 1))
 unfolding walk step
 walk_first k v ts at = refl
 
-pub walk_end : (at : ℕ) → walk [] [] at ≡ listed.Jobs
+pub walk_end : (at : ℕ) → walk [] [] at ≡ Ok tt
 unfolding walk
 walk_end at = refl
 
@@ -292,18 +280,14 @@ module _ (t : List ℕ) (at k v : ℕ) (ts : List ℕ) (here : drop (2 * at) t �
   rest : drop (2 * (at + 1)) t ≡ ts
   rest = sym (next t at) ∙ ap (drop 2) here
 
-  goes : {f : First} → Begins f → walk (items f) ts (at + 1) ≡ ahead t (found_of f (k ∷ (v ∷ ts)) at (through (items f) ts (at + 1)))
-  goes {f} b =
+  goes : (f : First) → walk (items f) ts (at + 1) ≡ ahead t (found_of f (k ∷ (v ∷ ts)) at (through (items f) ts (at + 1)))
+  goes f =
       let e : walk (items f) (drop (2 * (at + 1)) t) (at + 1) ≡ after t (through (items f) (drop (2 * (at + 1)) t) (at + 1)) = walk_through t (items f) (at + 1) in
-      (rw (rest) at e) ∙ ahead-found b t (k ∷ (v ∷ ts)) at (through (items f) ts (at + 1))
+      (rw (rest) at e) ∙ ahead-found f t (k ∷ (v ∷ ts)) at (through (items f) ts (at + 1))
 
-  by_first : (f : First) → onward (begun f) (listed.Misfit at) (λ js. walk js ts (at + 1)) ≡ ahead t (begun_of f (k ∷ (v ∷ ts)) at)
-  by_first first.Nothing = refl
-  by_first first.Read = goes read
-  by_first first.ReadOut = goes read_out
-  by_first first.Program = goes program
-  by_first first.Erase = goes erase
-  by_first first.Status = goes status
+  by_first : (f : Option First) → onward (begun f) (Err (misfit at)) (λ js. walk js ts (at + 1)) ≡ ahead t (begun_of f (k ∷ (v ∷ ts)) at)
+  by_first None = refl
+  by_first (Some f) = goes f
 
 from : (t : List ℕ) (at : ℕ) (ts : List ℕ) → drop (2 * at) t ≡ ts → walk [] ts at ≡ ahead t (job_from ts at)
 from t at [] e = walk_end at
@@ -323,17 +307,17 @@ pub record Between (at p n : ℕ) : Type 0 where
   pub low : at ≤ p
   pub high : p ≤ n
 
-abbrev Bounded : ℕ → ℕ → Reached → Type 0
-Bounded at n (reached.Stops p) = Unit
-Bounded at n (reached.Whole p) = Between at p n
+abbrev Bounded : ℕ → ℕ → Result ℕ Misfit → Type 0
+Bounded at n (Err m) = Unit
+Bounded at n (Ok p) = Between at p n
 
-widened : (at n : ℕ) (r : Reached) → Bounded (at + 1) n r → Bounded at n r
-widened at n (reached.Stops p) b = tt
-widened at n (reached.Whole p) b = record { low = omega (arith, b.low); high = b.high }
+widened : (at n : ℕ) (r : Result ℕ Misfit) → Bounded (at + 1) n r → Bounded at n r
+widened at n (Err m) b = tt
+widened at n (Ok p) b = record { low = omega (arith, b.low); high = b.high }
 
-widened-by : (at m n : ℕ) (r : Reached) → Bounded (at + m) n r → Bounded at n r
-widened-by at m n (reached.Stops p) b = tt
-widened-by at m n (reached.Whole p) b = record { low = omega (arith, b.low); high = b.high }
+widened-by : (at m n : ℕ) (r : Result ℕ Misfit) → Bounded (at + m) n r → Bounded at n r
+widened-by at m n (Err w) b = tt
+widened-by at m n (Ok p) b = record { low = omega (arith, b.low); high = b.high }
 
 two-left : (t : List ℕ) (at : ℕ) → 2 ≤ length (drop (2 * at) t) → at + 1 ≤ length t / 2
 two-left t at h = omega (arith, length-drop (2 * at) t)
@@ -345,14 +329,14 @@ through-bounds : (t : List ℕ) (is : List Item) (at : ℕ) → at ≤ length t 
 through-bounds t [] at h = rw (through-none (drop (2 * at) t) at) (record { low = omega arith; high = h })
 through-bounds t (address ∷ is) at h = rw (through-address is (drop (2 * at) t) at) (by-test (is_kind 1 (drop (2 * at) t)) refl (λ low. through-bounds t is (at + 1) low)) where
   by-test : (b : Bool) → is_kind 1 (drop (2 * at) t) ≡ b → (at + 1 ≤ length t / 2 → Bounded (at + 1) (length t / 2) (through is (drop (2 * (at + 1)) t) (at + 1)))
-      → Bounded at (length t / 2) (pick b (through is (drop 2 (drop (2 * at) t)) (at + 1)) (reached.Stops at))
+      → Bounded at (length t / 2) (pick b (through is (drop 2 (drop (2 * at) t)) (at + 1)) (Err (misfit at)))
   by-test true e ih =
       widened at (length t / 2) (through is (drop 2 (drop (2 * at) t)) (at + 1))
       (rw (next t at) (ih (two-left t at (two-of-kind 1 (drop (2 * at) t) e))))
   by-test false e ih = tt
 through-bounds t (command b ∷ is) at h = rw (through-command b is (drop (2 * at) t) at) (by-test (is_command b (drop (2 * at) t)) refl (λ low. through-bounds t is (at + 1) low)) where
   by-test : (c : Bool) → is_command b (drop (2 * at) t) ≡ c → (at + 1 ≤ length t / 2 → Bounded (at + 1) (length t / 2) (through is (drop (2 * (at + 1)) t) (at + 1)))
-      → Bounded at (length t / 2) (pick c (through is (drop 2 (drop (2 * at) t)) (at + 1)) (reached.Stops at))
+      → Bounded at (length t / 2) (pick c (through is (drop 2 (drop (2 * at) t)) (at + 1)) (Err (misfit at)))
   by-test true e ih =
       widened at (length t / 2) (through is (drop 2 (drop (2 * at) t)) (at + 1))
       (rw (next t at) (ih (two-left t at (two-of-command b (drop (2 * at) t) e))))
@@ -365,37 +349,25 @@ through-bounds t (data_outs ∷ is) at h =
     (widened-by at (many_of 3 (drop (2 * at) t)) (length t / 2) (through is (drop (2 * (at + many_of 3 (drop (2 * at) t))) t) (at + many_of 3 (drop (2 * at) t))) (through-bounds t is (at + many_of 3 (drop (2 * at) t)) (many-left 3 t at h)))
 
 -- a whole job ends after its place, and within the trace
-abbrev Ending : ℕ → ℕ → Found → Type 0
-Ending at n found.End = Unit
-Ending at n (found.Misfit p) = Unit
-Ending at n (found.Whole j d m p) = Between (at + 1) p n
+abbrev Ending : ℕ → ℕ → Result (Option FoundJob) Misfit → Type 0
+Ending at n (Ok None) = Unit
+Ending at n (Err m) = Unit
+Ending at n (Ok (Some g)) = Between (at + 1) g.next n
 
-ends_found : {f : First} → Begins f → (ts : List ℕ) (at n : ℕ) (r : Reached) → Bounded (at + 1) n r → Ending at n (found_of f ts at r)
-ends_found read ts at n (reached.Stops p) b = tt
-ends_found read ts at n (reached.Whole p) b = b
-ends_found read_out ts at n (reached.Stops p) b = tt
-ends_found read_out ts at n (reached.Whole p) b = b
-ends_found program ts at n (reached.Stops p) b = tt
-ends_found program ts at n (reached.Whole p) b = b
-ends_found erase ts at n (reached.Stops p) b = tt
-ends_found erase ts at n (reached.Whole p) b = b
-ends_found status ts at n (reached.Stops p) b = tt
-ends_found status ts at n (reached.Whole p) b = b
+ends_found : (f : First) (ts : List ℕ) (at n : ℕ) (r : Result ℕ Misfit) → Bounded (at + 1) n r → Ending at n (found_of f ts at r)
+ends_found f ts at n (Err m) b = tt
+ends_found f ts at n (Ok p) b = rw (ends_there f ts at p) b
 
 module _ (t : List ℕ) (at k v : ℕ) (ts : List ℕ) (here : drop (2 * at) t ≡ k ∷ (v ∷ ts)) where
-  ends : {f : First} → Begins f → Ending at (length t / 2) (found_of f (k ∷ (v ∷ ts)) at (through (items f) ts (at + 1)))
-  ends {f} b =
+  ends : (f : First) → Ending at (length t / 2) (found_of f (k ∷ (v ∷ ts)) at (through (items f) ts (at + 1)))
+  ends f =
       let long : 2 ≤ length (drop (2 * at) t) = rw (here) (omega arith) in
       let e : Bounded (at + 1) (length t / 2) (through (items f) (drop (2 * (at + 1)) t) (at + 1)) = through-bounds t (items f) (at + 1) (two-left t at long) in
-      ends_found b (k ∷ (v ∷ ts)) at (length t / 2) (through (items f) ts (at + 1)) (rw (rest t at k v ts here) at e)
+      ends_found f (k ∷ (v ∷ ts)) at (length t / 2) (through (items f) ts (at + 1)) (rw (rest t at k v ts here) at e)
 
-  ends-first : (f : First) → Ending at (length t / 2) (begun_of f (k ∷ (v ∷ ts)) at)
-  ends-first first.Nothing = tt
-  ends-first first.Read = ends read
-  ends-first first.ReadOut = ends read_out
-  ends-first first.Program = ends program
-  ends-first first.Erase = ends erase
-  ends-first first.Status = ends status
+  ends-first : (f : Option First) → Ending at (length t / 2) (begun_of f (k ∷ (v ∷ ts)) at)
+  ends-first None = tt
+  ends-first (Some f) = ends f
 
 ends-from : (t : List ℕ) (at : ℕ) (ts : List ℕ) → drop (2 * at) t ≡ ts → Ending at (length t / 2) (job_from ts at)
 ends-from t at [] e = tt
@@ -406,8 +378,8 @@ job-ends : (t : List ℕ) (at : ℕ) → Ending at (length t / 2) (job_at t at)
 unfolding job_at
 job-ends t at = ends-from t at (drop (2 * at) t) refl
 
-pub job-ahead : (t : List ℕ) (at : ℕ) (j : Job) (d n p : ℕ) → job_at t at ≡ found.Whole j d n p → Between (at + 1) p (length t / 2)
-job-ahead t at j d n p e = rw (e) at (job-ends t at)
+pub job-ahead : (t : List ℕ) (at : ℕ) (g : FoundJob) → job_at t at ≡ Ok (Some g) → Between (at + 1) g.next (length t / 2)
+job-ahead t at g e = rw (e) at (job-ends t at)
 
 by-parity : (n : ℕ) → n < 2 → (n ≡ 0 → ⊥) → n ≡ 1
 by-parity zero h no_zero = absurd (no_zero refl)
@@ -415,19 +387,19 @@ by-parity (suc zero) h no_zero = refl
 by-parity (suc (suc n)) h no_zero = absurd (omega arith)
 
 -- the job at a place, as the code finds it
-pub job-past : (t : List ℕ) (at : ℕ) → length t / 2 < at → found.End ≡ job_at t at
+pub job-past : (t : List ℕ) (at : ℕ) → length t / 2 < at → Ok None ≡ job_at t at
 unfolding job_at
 job-past t at h =
     let none : length t ≤ 2 * at = omega arith in
     rw (drop_of_length-le t none)
 
-pub job-even : (t : List ℕ) (at : ℕ) → length t / 2 ≡ at → length t % 2 ≡ 0 → found.End ≡ job_at t at
+pub job-even : (t : List ℕ) (at : ℕ) → length t / 2 ≡ at → length t % 2 ≡ 0 → Ok None ≡ job_at t at
 unfolding job_at
 job-even t at e h =
     let none : length t ≤ 2 * at = omega arith in
     rw (drop_of_length-le t none)
 
-pub job-odd : (t : List ℕ) (at : ℕ) → length t / 2 ≡ at → (length t % 2 ≡ 0 → ⊥) → found.Misfit at ≡ job_at t at
+pub job-odd : (t : List ℕ) (at : ℕ) → length t / 2 ≡ at → (length t % 2 ≡ 0 → ⊥) → Err (misfit at) ≡ job_at t at
 unfolding job_at
 job-odd t at e h =
     let odd : length t % 2 ≡ 1 = by-parity (length t % 2) (omega arith) h in
@@ -435,28 +407,18 @@ job-odd t at e h =
     let none : length t ≤ suc (2 * at) = omega arith in
     rw (drop-cons t (2 * at) 0 below, drop_of_length-le t none)
 
-module _ (t : List ℕ) (at : ℕ) (g : First) (h : at < length t / 2) (e : g ≡ beginning (get_or t (2 * at) 0) (get_or t (2 * at + 1) 0)) where
+module _ (t : List ℕ) (at : ℕ) (g : Option First) (h : at < length t / 2) (e : g ≡ beginning (get_or t (2 * at) 0) (get_or t (2 * at + 1) 0)) where
   job-begun : job_at t at ≡ begun_of g (drop (2 * at) t) at
   unfolding job_at
   job-begun =
       let bound : 2 * at + 1 < length t = omega arith in
       rw (record-at t at bound, e)
 
-  pub job-none : g ≡ first.Nothing → found.Misfit at ≡ job_at t at
+  pub job-none : g ≡ None → Err (misfit at) ≡ job_at t at
   job-none n = sym (job-begun ∙ rw (n))
 
-  as-found : {f : First} → Begins f → begun_of f (drop (2 * at) t) at ≡ found_of f (drop (2 * at) t) at (through (items f) (drop (2 * (at + 1)) t) (at + 1))
-  as-found read = rw (next t at)
-  as-found read_out = rw (next t at)
-  as-found program = rw (next t at)
-  as-found erase = rw (next t at)
-  as-found status = rw (next t at)
-
-  pub job-made : {f : First} → Begins f → (r : Reached) (x : Found) → g ≡ f → r ≡ through (items g) (drop (2 * (at + 1)) t) (at + 1) → x ≡ found_of g (drop (2 * at) t) at r → x ≡ job_at t at
-  job-made {f} b r x same reach made =
-      let reach' : r ≡ through (items f) (drop (2 * (at + 1)) t) (at + 1) = rw (same) at reach in
-      let made' : x ≡ found_of f (drop (2 * at) t) at r = rw (same) at made in
-      made' ∙ ap (found_of f (drop (2 * at) t) at) reach' ∙ sym (as-found b) ∙ sym (ap (λ (y : First). begun_of y (drop (2 * at) t) at) same) ∙ sym job-begun
+  pub job-found : (f : First) (r : Result ℕ Misfit) → g ≡ Some f → r ≡ through (items f) (drop (2 * (at + 1)) t) (at + 1) → found_of f (drop (2 * at) t) at r ≡ job_at t at
+  job-found f r same reach = sym (job-begun ∙ rw (same, next t at, ← reach))
 
 -- the loop over a list's jobs
 pub record Walking (t : List ℕ) (at : ℕ) : Type 0 where
@@ -466,18 +428,18 @@ pub record Walking (t : List ℕ) (at : ℕ) : Type 0 where
 pub walking : (t : List ℕ) → Walking t 0
 walking t = record { same = walk_start t; within = omega arith }
 
-module _ (t : List ℕ) (at : ℕ) (w : Walking t at) (f : Found) (e : f ≡ job_at t at) where
+module _ (t : List ℕ) (at : ℕ) (w : Walking t at) (f : Result (Option FoundJob) Misfit) (e : f ≡ job_at t at) where
   seen : first_misfit t ≡ ahead t f
   seen = w.same ∙ walk-job t at ∙ sym (ap (ahead t) e)
 
-  pub walked_end : f ≡ found.End → listed.Jobs ≡ first_misfit t
+  pub walked_end : f ≡ Ok None → Ok tt ≡ first_misfit t
   walked_end h = sym (seen ∙ ap (ahead t) h)
 
-  pub walked-misfit : (p : ℕ) → f ≡ found.Misfit p → listed.Misfit p ≡ first_misfit t
-  walked-misfit p h = sym (seen ∙ ap (ahead t) h)
+  pub walked-misfit : (m : Misfit) → f ≡ Err m → Err m ≡ first_misfit t
+  walked-misfit m h = sym (seen ∙ ap (ahead t) h)
 
-  pub walked-ahead : (j : Job) (d n p : ℕ) → f ≡ found.Whole j d n p → Between (at + 1) p (length t / 2)
-  walked-ahead j d n p h = job-ahead t at j d n p (sym e ∙ h)
+  pub walked-ahead : (g : FoundJob) → f ≡ Ok (Some g) → Between (at + 1) g.next (length t / 2)
+  walked-ahead g h = job-ahead t at g (sym e ∙ h)
 
-  pub walked_on : (j : Job) (d n p : ℕ) → f ≡ found.Whole j d n p → Walking t p
-  walked_on j d n p h = record { same = seen ∙ ap (ahead t) h; within = (walked-ahead j d n p h).high }
+  pub walked_on : (g : FoundJob) → f ≡ Ok (Some g) → Walking t g.next
+  walked_on g h = record { same = seen ∙ ap (ahead t) h; within = (walked-ahead g h).high }

@@ -1,44 +1,40 @@
 -- Whole jobs in plain numbers, for hosts. A job's number: 1 read, 2 read-out, 3 program, 4 erase, 5 status.
-use Rattle.std.specs.Prelude.{ℕ, List, [], ◌∷◌, length, eqb, ltb}
+use Rattle.std.specs.Prelude.{ℕ, List, [], ◌∷◌, length, eqb, ltb, Option, None, Some, Result, Ok, Err}
 use Rattle.std.proofs.lemmas.List.Edits.{sets}
 use Rattle.target.specs.Pick.{pick}
 use Rattle.jobs.specs.declared.Job.{Job}
 use Rattle.jobs.specs.declared.Job.TheVariants as job
-use Rattle.jobs.specs.declared.writing.Answer.{Answer}
-use Rattle.jobs.specs.declared.writing.Answer.TheVariants as answer
-use Rattle.jobs.specs.declared.reading.Found.{Found}
-use Rattle.jobs.specs.declared.reading.Found.TheVariants as found
-use Rattle.jobs.specs.declared.reading.Listed.{Listed}
-use Rattle.jobs.specs.declared.reading.Listed.TheVariants as listed
+use Rattle.jobs.specs.declared.writing.Unwritten.{Unwritten}
+use Rattle.jobs.specs.declared.writing.Unwritten.TheVariants as unwritten
+use Rattle.jobs.specs.declared.reading.Misfit.{Misfit}
+use Rattle.jobs.specs.declared.reading.FoundJob.{FoundJob}
 use Rattle.jobs.specs.Writing.{wrote_of}
 use Rattle.jobs.specs.Reading.{job_at, first_misfit}
-use Rattle.jobs.specs.declared.numbers.NamedJob.{NamedJob}
-use Rattle.jobs.specs.declared.numbers.NamedJob.TheVariants as named
 use Rattle.jobs.specs.declared.numbers.JobNumbers.{JobNumbers}
 
-unfoldable pub named_job : ℕ → ℕ → ℕ → ℕ → NamedJob
+unfoldable pub named_job : ℕ → ℕ → ℕ → ℕ → Option Job
 named_job kind column row count =
-    pick (eqb kind 1) (named.One (job.Read column row))
-    (pick (eqb kind 2) (named.One (job.ReadOut column row count))
-    (pick (eqb kind 3) (named.One (job.Program column row))
-    (pick (eqb kind 4) (named.One (job.Erase row))
-    (pick (eqb kind 5) (named.One (job.Status row count))
-    named.Nothing))))
+    pick (eqb kind 1) (Some (job.Read column row))
+    (pick (eqb kind 2) (Some (job.ReadOut column row count))
+    (pick (eqb kind 3) (Some (job.Program column row))
+    (pick (eqb kind 4) (Some (job.Erase row))
+    (pick (eqb kind 5) (Some (job.Status row count))
+    None))))
 
 -- 1 too wide, 2 too small a room, else the number of bytes, which is 8 at least
-abbrev pub answer_number : Answer → ℕ
-answer_number answer.TooWide = 1
-answer_number answer.TooSmall = 2
-answer_number (answer.Written n) = n
+abbrev pub answer_number : Result ℕ Unwritten → ℕ
+answer_number (Err unwritten.TooWide) = 1
+answer_number (Err unwritten.TooSmall) = 2
+answer_number (Ok n) = n
 
 pub record NumberedWrite : Type 0 where
   pub answer : ℕ
   pub room : List ℕ
 
 -- 0 where the number names no job, and then nothing is written
-abbrev pub numbered_write : NamedJob → List ℕ → List ℕ → NumberedWrite
-numbered_write named.Nothing bytes room = record { answer = 0; room = room }
-numbered_write (named.One j) bytes room = record { answer = answer_number (wrote_of j bytes room).answer; room = (wrote_of j bytes room).room }
+abbrev pub numbered_write : Option Job → List ℕ → List ℕ → NumberedWrite
+numbered_write None bytes room = record { answer = 0; room = room }
+numbered_write (Some j) bytes room = record { answer = answer_number (wrote_of j bytes room).answer; room = (wrote_of j bytes room).room }
 
 abbrev pub job_numbers : Job → ℕ → ℕ → ℕ → JobNumbers
 job_numbers (job.Read c r) d count next = record { kind = 1; column = c; row = r; count = 0; place = 0; next = next }
@@ -48,10 +44,10 @@ job_numbers (job.Erase r) d count next = record { kind = 4; column = 0; row = r;
 job_numbers (job.Status r n) d count next = record { kind = 5; column = 0; row = r; count = n; place = 0; next = next }
 
 -- 0 where no record stands at the place, 6 for a misfit
-abbrev pub found_numbers : Found → JobNumbers
-found_numbers found.End = record { kind = 0; column = 0; row = 0; count = 0; place = 0; next = 0 }
-found_numbers (found.Misfit p) = record { kind = 6; column = 0; row = 0; count = 0; place = 0; next = p }
-found_numbers (found.Whole j d n p) = job_numbers j d n p
+abbrev pub found_numbers : Result (Option FoundJob) Misfit → JobNumbers
+found_numbers (Ok None) = record { kind = 0; column = 0; row = 0; count = 0; place = 0; next = 0 }
+found_numbers (Err m) = record { kind = 6; column = 0; row = 0; count = 0; place = 0; next = m.place }
+found_numbers (Ok (Some g)) = job_numbers g.job g.place g.count g.next
 
 pub record NumberedRead : Type 0 where
   pub answer : ℕ
@@ -68,9 +64,9 @@ unfoldable pub numbered_read : List ℕ → ℕ → List ℕ → NumberedRead
 numbered_read records at room = pick (ltb (length room) 6) (record { answer = 7; numbers = room }) (read_into (found_numbers (job_at records at)) room)
 
 -- 2^64 - 1 where the list is whole jobs
-abbrev pub listed_number : Listed → ℕ
-listed_number listed.Jobs = 18446744073709551615
-listed_number (listed.Misfit p) = p
+abbrev pub listed_number : Result Unit Misfit → ℕ
+listed_number (Ok done) = 18446744073709551615
+listed_number (Err m) = m.place
 
 unfoldable pub misfit_number : List ℕ → ℕ
 misfit_number records = listed_number (first_misfit records)

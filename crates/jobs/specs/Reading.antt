@@ -1,29 +1,37 @@
 -- Records grouped into jobs (document 02, A5). A list of records is given as bytes, kind and value; places count records from 0.
-use Rattle.std.specs.Prelude.{ℕ, zero, suc, ◌+◌, ◌-◌, ◌*◌, Bool, true, false, ◌&&◌, ◌||◌, not, List, [], ◌∷◌, length, drop, get_or, eqb}
+use Rattle.std.specs.Prelude.{ℕ, zero, suc, ◌+◌, ◌-◌, ◌*◌, Bool, true, false, ◌&&◌, ◌||◌, not, List, [], ◌∷◌, length, drop, get_or, eqb, Option, None, Some, Result, Ok, Err}
 use Rattle.target.specs.Pick.{pick}
+use Rattle.jobs.specs.declared.Job.{Job}
 use Rattle.jobs.specs.declared.Job.TheVariants as job
 use Rattle.jobs.specs.declared.reading.First.{First}
 use Rattle.jobs.specs.declared.reading.First.TheVariants as first
-use Rattle.jobs.specs.declared.reading.Reached.{Reached}
-use Rattle.jobs.specs.declared.reading.Reached.TheVariants as reached
-use Rattle.jobs.specs.declared.reading.Found.{Found}
-use Rattle.jobs.specs.declared.reading.Found.TheVariants as found
-use Rattle.jobs.specs.declared.reading.Listed.{Listed}
-use Rattle.jobs.specs.declared.reading.Listed.TheVariants as listed
+use Rattle.jobs.specs.declared.reading.Misfit.{Misfit}
+use Rattle.jobs.specs.declared.reading.FoundJob.{FoundJob}
+
+-- the first record that doesn't fit
+abbrev pub misfit : ℕ → Misfit
+misfit p = record { place = p }
+
+-- a job that was found: the job, a program's bytes as place and number, and the place after it
+abbrev pub grouped : Job → ℕ → ℕ → ℕ → FoundJob
+grouped j d n p = record { job = j; place = d; count = n; next = p }
+
+abbrev pub whole : Job → ℕ → ℕ → ℕ → Result (Option FoundJob) Misfit
+whole j d n p = Ok (Some (grouped j d n p))
 
 -- which job a command begins
-unfoldable pub first_of : ℕ → First
+unfoldable pub first_of : ℕ → Option First
 first_of v =
-    pick (eqb v 0x00) first.Read
-    (pick (eqb v 0x06) first.ReadOut
-    (pick (eqb v 0x80) first.Program
-    (pick (eqb v 0x60) first.Erase
-    (pick (eqb v 0x78) first.Status
-    first.Nothing))))
+    pick (eqb v 0x00) (Some first.Read)
+    (pick (eqb v 0x06) (Some first.ReadOut)
+    (pick (eqb v 0x80) (Some first.Program)
+    (pick (eqb v 0x60) (Some first.Erase)
+    (pick (eqb v 0x78) (Some first.Status)
+    None))))
 
 -- which job a record begins
-unfoldable pub beginning : ℕ → ℕ → First
-beginning kind value = pick (eqb kind 0) (first_of value) first.Nothing
+unfoldable pub beginning : ℕ → ℕ → Option First
+beginning kind value = pick (eqb kind 0) (first_of value) None
 
 -- what a job is made of after its first command: an address cycle, a command, any number of data in or of data out
 pub data Item : Type 0 where
@@ -47,7 +55,6 @@ abbrev pub open_items : ℕ → List Item
 open_items n = addresses n (data_outs ∷ [])
 
 abbrev pub items : First → List Item
-items first.Nothing = []
 items first.Read = closed_items 5 false 0x30 false
 items first.ReadOut = closed_items 5 false 0xe0 true
 items first.Program = closed_items 5 true 0x10 false
@@ -82,10 +89,10 @@ is_command b (k ∷ (v ∷ ts)) = eqb k 0 && eqb v b
 
 -- how far the records, the first of them at place `at`, fit the items: to the place after the last of them, or up to one
 -- that does not fit, or to the end of the list
-unfoldable pub through : List Item → List ℕ → ℕ → Reached
-through [] ts at = reached.Whole at
-through (address ∷ is) ts at = pick (is_kind 1 ts) (through is (drop 2 ts) (at + 1)) (reached.Stops at)
-through (command b ∷ is) ts at = pick (is_command b ts) (through is (drop 2 ts) (at + 1)) (reached.Stops at)
+unfoldable pub through : List Item → List ℕ → ℕ → Result ℕ Misfit
+through [] ts at = Ok at
+through (address ∷ is) ts at = pick (is_kind 1 ts) (through is (drop 2 ts) (at + 1)) (Err (misfit at))
+through (command b ∷ is) ts at = pick (is_command b ts) (through is (drop 2 ts) (at + 1)) (Err (misfit at))
 through (data_ins ∷ is) ts at = through is (drop (2 * many_of 2 ts) ts) (at + many_of 2 ts)
 through (data_outs ∷ is) ts at = through is (drop (2 * many_of 3 ts) ts) (at + many_of 3 ts)
 
@@ -101,35 +108,30 @@ unfoldable pub row_at : List ℕ → ℕ → ℕ
 row_at ts i = value_at ts i + 256 * value_at ts (i + 1) + 65536 * value_at ts (i + 2)
 
 -- the job whose records begin at `at`, at the front of ts, and end before `next`; a program's bytes as place and number
-abbrev pub grouped_of : First → List ℕ → ℕ → ℕ → Found
-grouped_of first.Nothing ts at next = found.Misfit at
-grouped_of first.Read ts at next = found.Whole (job.Read (column_at ts) (row_at ts 3)) 0 0 next
-grouped_of first.ReadOut ts at next = found.Whole (job.ReadOut (column_at ts) (row_at ts 3) (next - (at + 7))) 0 0 next
-grouped_of first.Program ts at next = found.Whole (job.Program (column_at ts) (row_at ts 3)) (at + 6) (next - (at + 7)) next
-grouped_of first.Erase ts at next = found.Whole (job.Erase (row_at ts 1)) 0 0 next
-grouped_of first.Status ts at next = found.Whole (job.Status (row_at ts 1) (next - (at + 4))) 0 0 next
+abbrev pub grouped_of : First → List ℕ → ℕ → ℕ → FoundJob
+grouped_of first.Read ts at next = grouped (job.Read (column_at ts) (row_at ts 3)) 0 0 next
+grouped_of first.ReadOut ts at next = grouped (job.ReadOut (column_at ts) (row_at ts 3) (next - (at + 7))) 0 0 next
+grouped_of first.Program ts at next = grouped (job.Program (column_at ts) (row_at ts 3)) (at + 6) (next - (at + 7)) next
+grouped_of first.Erase ts at next = grouped (job.Erase (row_at ts 1)) 0 0 next
+grouped_of first.Status ts at next = grouped (job.Status (row_at ts 1) (next - (at + 4))) 0 0 next
 
-abbrev pub found_of : First → List ℕ → ℕ → Reached → Found
-found_of f ts at (reached.Stops p) = found.Misfit p
-found_of f ts at (reached.Whole p) = grouped_of f ts at p
+abbrev pub found_of : First → List ℕ → ℕ → Result ℕ Misfit → Result (Option FoundJob) Misfit
+found_of f ts at (Err m) = Err m
+found_of f ts at (Ok p) = Ok (Some (grouped_of f ts at p))
 
 -- the job that a record begins; of one that begins none, the record itself is the misfit
-abbrev pub begun_of : First → List ℕ → ℕ → Found
-begun_of first.Nothing ts at = found.Misfit at
-begun_of first.Read ts at = found_of first.Read ts at (through (items first.Read) (drop 2 ts) (at + 1))
-begun_of first.ReadOut ts at = found_of first.ReadOut ts at (through (items first.ReadOut) (drop 2 ts) (at + 1))
-begun_of first.Program ts at = found_of first.Program ts at (through (items first.Program) (drop 2 ts) (at + 1))
-begun_of first.Erase ts at = found_of first.Erase ts at (through (items first.Erase) (drop 2 ts) (at + 1))
-begun_of first.Status ts at = found_of first.Status ts at (through (items first.Status) (drop 2 ts) (at + 1))
+abbrev pub begun_of : Option First → List ℕ → ℕ → Result (Option FoundJob) Misfit
+begun_of None ts at = Err (misfit at)
+begun_of (Some f) ts at = found_of f ts at (through (items f) (drop 2 ts) (at + 1))
 
 -- the job at the front of a list whose first record has place `at`; an odd last byte is a record that doesn't fit
-abbrev pub job_from : List ℕ → ℕ → Found
-job_from [] at = found.End
-job_from (k ∷ []) at = found.Misfit at
+abbrev pub job_from : List ℕ → ℕ → Result (Option FoundJob) Misfit
+job_from [] at = Ok None
+job_from (k ∷ []) at = Err (misfit at)
 job_from (k ∷ (v ∷ ts)) at = begun_of (beginning k v) (k ∷ (v ∷ ts)) at
 
 -- the job at a place of a trace
-unfoldable pub job_at : List ℕ → ℕ → Found
+unfoldable pub job_at : List ℕ → ℕ → Result (Option FoundJob) Misfit
 job_at trace at = job_from (drop (2 * at) trace) at
 
 -- Lists of jobs, record by record: what is still due of the job that is open, nothing between two jobs.
@@ -137,13 +139,9 @@ pub data Next : Type 0 where
   stuck : Next
   on : List Item → Next
 
-abbrev pub begun : First → Next
-begun first.Nothing = stuck
-begun first.Read = on (items first.Read)
-begun first.ReadOut = on (items first.ReadOut)
-begun first.Program = on (items first.Program)
-begun first.Erase = on (items first.Erase)
-begun first.Status = on (items first.Status)
+abbrev pub begun : Option First → Next
+begun None = stuck
+begun (Some f) = on (items f)
 
 -- one record: it fits what is due, or goes on with what may come any number of times, or begins the next job
 unfoldable pub step : List Item → ℕ → ℕ → Next
@@ -161,15 +159,15 @@ ended (command b ∷ is) = false
 ended (data_ins ∷ is) = ended is
 ended (data_outs ∷ is) = ended is
 
-abbrev pub onward : Next → Listed → (List Item → Listed) → Listed
+abbrev pub onward : Next → Result Unit Misfit → (List Item → Result Unit Misfit) → Result Unit Misfit
 onward stuck here there = here
 onward (on is) here there = there is
 
 -- the first record that doesn't fit, from place `at` on; the place after the last if the list stops inside a job
-unfoldable pub walk : List Item → List ℕ → ℕ → Listed
-walk is [] at = pick (ended is) listed.Jobs (listed.Misfit at)
-walk is (k ∷ []) at = listed.Misfit at
-walk is (k ∷ (v ∷ ts)) at = onward (step is k v) (listed.Misfit at) (λ js. walk js ts (at + 1))
+unfoldable pub walk : List Item → List ℕ → ℕ → Result Unit Misfit
+walk is [] at = pick (ended is) (Ok tt) (Err (misfit at))
+walk is (k ∷ []) at = Err (misfit at)
+walk is (k ∷ (v ∷ ts)) at = onward (step is k v) (Err (misfit at)) (λ js. walk js ts (at + 1))
 
-unfoldable pub first_misfit : List ℕ → Listed
+unfoldable pub first_misfit : List ℕ → Result Unit Misfit
 first_misfit trace = walk [] trace 0

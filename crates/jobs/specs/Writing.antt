@@ -1,11 +1,11 @@
 -- Jobs as records (document 02, A5): which are too wide, what their records are, and what writing them into a room leaves.
-use Rattle.std.specs.Prelude.{ℕ, Bool, ◌||◌, List, [], ◌∷◌, ◌++◌, map, length, drop, replicate, ltb}
+use Rattle.std.specs.Prelude.{ℕ, Bool, ◌||◌, List, [], ◌∷◌, ◌++◌, map, length, drop, replicate, ltb, Result, Ok, Err}
 use Rattle.target.specs.Pick.{pick}
 use Rattle.jobs.specs.Cycles.{Cycle, data_in, data_out, ColumnBytes, RowBytes, column_bytes, row_bytes, read_cycles, read_out_cycles, program_cycles, erase_cycles, status_cycles, bytes_of}
 use Rattle.jobs.specs.declared.Job.{Job}
 use Rattle.jobs.specs.declared.Job.TheVariants.{Read, ReadOut, Program, Erase, Status}
-use Rattle.jobs.specs.declared.writing.Answer.{Answer}
-use Rattle.jobs.specs.declared.writing.Answer.TheVariants.{TooWide, TooSmall, Written}
+use Rattle.jobs.specs.declared.writing.Unwritten.{Unwritten}
+use Rattle.jobs.specs.declared.writing.Unwritten.TheVariants.{TooWide, TooSmall}
 
 -- a column above 16 bits, or a row above 24
 abbrev pub wide : ℕ → ℕ → Bool
@@ -31,18 +31,18 @@ records_of j bytes = bytes_of (cycles j bytes)
 
 -- what a writer answers, and the room as it leaves it
 pub record Wrote : Type 0 where
-  pub answer : Answer
+  pub answer : Result ℕ Unwritten
   pub room : List ℕ
 
 -- records go to the front of the room where it has room for all of them; what is past them stays. Else nothing is written
 unfoldable pub laid : List ℕ → List ℕ → Wrote
 laid records room =
-    pick (ltb (length room) (length records)) (record { answer = TooSmall; room = room })
-    (record { answer = Written (length records); room = records ++ drop (length records) room })
+    pick (ltb (length room) (length records)) (record { answer = Err TooSmall; room = room })
+    (record { answer = Ok (length records); room = records ++ drop (length records) room })
 
 -- too wide is its own answer, given before the room is looked at
 unfoldable pub wrote_of : Job → List ℕ → List ℕ → Wrote
-wrote_of j bytes room = pick (too_wide j) (record { answer = TooWide; room = room }) (laid (records_of j bytes) room)
+wrote_of j bytes room = pick (too_wide j) (record { answer = Err TooWide; room = room }) (laid (records_of j bytes) room)
 
 -- For the code: a job's head, the records of data in and of data out.
 abbrev pub head_long : ℕ → ColumnBytes → RowBytes → List ℕ

@@ -1,20 +1,15 @@
 // The writer and the reader over plain numbers, for hosts, whose functions take no enum. A job is named by a number: 1 read, 2
 // read-out, 3 program, 4 erase, 5 status.
+#![tactic(auto, unfolding(crate::specs::Numbers::named_job, crate::specs::Numbers::numbered_read, crate::specs::Numbers::misfit_number))]
+
 ghost use Rattle.std.specs.Prelude.{◌≡◌, length};
-ghost use Rattle.jobs.specs.Numbers.{named_job, answer_number, NumberedWrite, numbered_write, job_numbers, found_numbers, NumberedRead, numbered_read, listed_number, misfit_number};
+ghost use Rattle.jobs.specs.Numbers.{named_job, answer_number, NumberedWrite, numbered_write, job_numbers, found_numbers, NumberedRead, numbered_read, misfit_number};
 
 use crate::Job;
-use crate::reading::{Found, Listed, first_misfit, job_at};
-use crate::writing::{Answer, write};
+use crate::reading::{FoundJob, Misfit, first_misfit, job_at};
+use crate::writing::{Unwritten, write};
 
-// What the numbers of a job name.
-#[derive(Clone, Copy)]
-pub enum NamedJob {
-    Nothing,
-    One(Job),
-}
-
-// A job that was found, in numbers: 0 none, 1 to 5 which job, 6 a misfit. `count` is that of its data cycles, `place` where a
+// A job that was found, in numbers, since C has it as six: 0 none, 1 to 5 which job, 6 a misfit. `count` is that of its data cycles, `place` where a
 // program's first byte stands, `next` the place after the job, or the misfit's place.
 #[derive(Clone, Copy)]
 pub struct JobNumbers {
@@ -26,34 +21,26 @@ pub struct JobNumbers {
     pub next: usize,
 }
 
-fn named_job(kind: u8, column: usize, row: usize, count: usize) -> NamedJob
+fn named_job(kind: u8, column: usize, row: usize, count: usize) -> Option<Job>
     ensures { result ≡ named_job kind column row count }
 {
-    if kind == 1 {
-        return NamedJob::One(Job::Read { column, row });
+    match kind {
+        1 => Some(Job::Read { column, row }),
+        2 => Some(Job::ReadOut { column, row, count }),
+        3 => Some(Job::Program { column, row }),
+        4 => Some(Job::Erase { row }),
+        5 => Some(Job::Status { row, count }),
+        _ => None,
     }
-    if kind == 2 {
-        return NamedJob::One(Job::ReadOut { column, row, count });
-    }
-    if kind == 3 {
-        return NamedJob::One(Job::Program { column, row });
-    }
-    if kind == 4 {
-        return NamedJob::One(Job::Erase { row });
-    }
-    if kind == 5 {
-        return NamedJob::One(Job::Status { row, count });
-    }
-    NamedJob::Nothing
 }
 
-fn answer_number(a: Answer) -> usize
+fn answer_number(a: Result<usize, Unwritten>) -> usize
     ensures { result ≡ answer_number a }
 {
     match a {
-        Answer::TooWide => 1,
-        Answer::TooSmall => 2,
-        Answer::Written(n) => n,
+        Err(Unwritten::TooWide) => 1,
+        Err(Unwritten::TooSmall) => 2,
+        Ok(n) => n,
     }
 }
 
@@ -70,93 +57,78 @@ pub fn write_numbers(
         (record { answer = result; room = room.new })
         (numbered_write (named_job kind column row count) bytes.now room.old) }
 {
-    let named = named_job(kind, column, row, count);
-    match named {
-        NamedJob::Nothing => 0,
-        NamedJob::One(job) => {
-            let a = write(job, bytes, room);
-            answer_number(a)
-        }
+    match named_job(kind, column, row, count) {
+        None => 0,
+        Some(job) => answer_number(write(job, bytes, room)),
     }
 }
 
-fn job_numbers(job: Job, place: usize, count: usize, next: usize) -> JobNumbers
-    ensures { result ≡ job_numbers job place count next }
+fn job_numbers(g: FoundJob) -> JobNumbers
+    ensures { result ≡ job_numbers g.job g.place g.count g.next }
 {
-    match job {
+    let plain = JobNumbers {
+        kind: 0,
+        column: 0,
+        row: 0,
+        count: 0,
+        place: 0,
+        next: g.next,
+    };
+    match g.job {
         Job::Read { column, row } => JobNumbers {
             kind: 1,
             column,
             row,
-            count: 0,
-            place: 0,
-            next,
+            ..plain
         },
-        Job::ReadOut {
-            column,
-            row,
-            count: outs,
-        } => JobNumbers {
+        Job::ReadOut { column, row, count } => JobNumbers {
             kind: 2,
             column,
             row,
-            count: outs,
-            place: 0,
-            next,
+            count,
+            ..plain
         },
         Job::Program { column, row } => JobNumbers {
             kind: 3,
             column,
             row,
-            count,
-            place,
-            next,
+            count: g.count,
+            place: g.place,
+            ..plain
         },
         Job::Erase { row } => JobNumbers {
             kind: 4,
-            column: 0,
             row,
-            count: 0,
-            place: 0,
-            next,
+            ..plain
         },
-        Job::Status { row, count: outs } => JobNumbers {
+        Job::Status { row, count } => JobNumbers {
             kind: 5,
-            column: 0,
             row,
-            count: outs,
-            place: 0,
-            next,
+            count,
+            ..plain
         },
     }
 }
 
-fn found_numbers(f: Found) -> JobNumbers
-    ensures { result ≡ found_numbers f }
+fn found_numbers(found: Result<Option<FoundJob>, Misfit>) -> JobNumbers
+    ensures { result ≡ found_numbers found }
 {
-    match f {
-        Found::End => JobNumbers {
-            kind: 0,
-            column: 0,
-            row: 0,
-            count: 0,
-            place: 0,
-            next: 0,
-        },
-        Found::Misfit(p) => JobNumbers {
+    let none = JobNumbers {
+        kind: 0,
+        column: 0,
+        row: 0,
+        count: 0,
+        place: 0,
+        next: 0,
+    };
+    match found {
+        Ok(None) => none,
+        Err(m) => JobNumbers {
             kind: 6,
-            column: 0,
-            row: 0,
-            count: 0,
-            place: 0,
-            next: p,
+            next: m.place,
+            ..none
         },
-        Found::Whole {
-            job,
-            data,
-            count,
-            next,
-        } => job_numbers(job, data, count, next),
+        Ok(Some(g)) => job_numbers(g),
     }
 }
 
@@ -169,8 +141,7 @@ pub fn read_numbers(records: &[u8], at: usize, numbers: &mut [usize]) -> usize
     if numbers.len() < 6 {
         return 7;
     }
-    let f = job_at(records, at);
-    let n = found_numbers(f);
+    let n = found_numbers(job_at(records, at));
     numbers[0] = n.kind;
     numbers[1] = n.column;
     numbers[2] = n.row;
@@ -180,20 +151,13 @@ pub fn read_numbers(records: &[u8], at: usize, numbers: &mut [usize]) -> usize
     n.kind
 }
 
-fn listed_number(l: Listed) -> usize
-    ensures { result ≡ listed_number l }
-{
-    match l {
-        Listed::Jobs => 18446744073709551615,
-        Listed::Misfit(p) => p,
-    }
-}
-
 // The place of the first record of a list that doesn't fit, the place after the last if it stops inside a job, and the largest
 // number where it is whole jobs.
 pub fn misfit_number(records: &[u8]) -> usize
     ensures { result ≡ misfit_number records.now }
 {
-    let l = first_misfit(records);
-    listed_number(l)
+    match first_misfit(records) {
+        Ok(()) => usize::MAX,
+        Err(m) => m.place,
+    }
 }

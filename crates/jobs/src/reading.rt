@@ -1,9 +1,10 @@
 // From records to jobs: the job that stands at a place of a trace, and the first record of a list that is not whole jobs.
 // Places count records from 0. What a trace's records mean to a part is not looked at: a row may name no page.
-ghost use Rattle.std.specs.Prelude.{◌≡◌, true, ◌+◌, ◌-◌, ◌*◌, ◌/◌, ◌%◌, ◌≤◌, ◌<◌, min, length, drop, get_or, ltb};
+#![tactic(auto, unfolding(crate::specs::Reading::first_of, crate::specs::Reading::beginning, crate::specs::Reading::column_at, crate::specs::Reading::row_at))]
+
+ghost use Rattle.std.specs.Prelude.{◌≡◌, true, ◌+◌, ◌*◌, ◌/◌, ◌≤◌, ◌<◌, length, drop, get_or};
 ghost use Rattle.target.specs.Pick.{pick};
-ghost use Rattle.jobs.specs.declared.reading.First.TheVariants as first;
-ghost use Rattle.jobs.specs.Reading.{first_of, beginning, of_kind, run, many_of, is_command, closed_items, open_items, through, value_at, column_at, row_at, grouped_of, found_of, items, job_at, first_misfit};
+ghost use Rattle.jobs.specs.Reading.{first_of, beginning, of_kind, run, many_of, is_command, closed_items, open_items, through, value_at, column_at, row_at, grouped_of, items, job_at, first_misfit};
 
 use crate::Job;
 use slices::byte_at;
@@ -11,7 +12,6 @@ use slices::byte_at;
 // Which job a record begins.
 #[derive(Clone, Copy)]
 pub enum First {
-    Nothing,
     Read,
     ReadOut,
     Program,
@@ -19,86 +19,40 @@ pub enum First {
     Status,
 }
 
-// How far the records of a job fit: to the place after its last, or up to one that does not fit.
+// The first record that doesn't fit, or the place after the last if the list stops inside a job.
 #[derive(Clone, Copy)]
-pub enum Reached {
-    Whole(usize),
-    Stops(usize),
+pub struct Misfit {
+    pub place: usize,
 }
 
-// What stands at a place.
+// A job that was found, and the place after it. A program's bytes are the values of `count` records, the first of them at `place`;
+// both are 0 for another job.
 #[derive(Clone, Copy)]
-pub enum Found {
-    // No record: the list ends there, or before.
-    End,
-    // No whole job: the first record that doesn't fit, or the place after the last if the list stops inside the job.
-    Misfit(usize),
-    // A job, and the place after it. A program's bytes are the values of `count` records, the first of them at `data`;
-    // both are 0 for another job.
-    Whole {
-        job: Job,
-        data: usize,
-        count: usize,
-        next: usize,
-    },
-}
-
-// A list of records as a whole.
-#[derive(Clone, Copy)]
-pub enum Listed {
-    // Whole jobs, none or more.
-    Jobs,
-    // As of a job above.
-    Misfit(usize),
-}
-
-fn wide(x: u8) -> usize
-    ensures { (result ≡ x) × (result < 256) }
-{
-    x as usize
-}
-
-fn minus(a: usize, b: usize) -> usize
-    ensures { result ≡ a - b }
-{
-    if a < b { 0 } else { a - b }
-}
-
-fn lesser(a: usize, b: usize) -> usize
-    ensures { result ≡ min a b }
-{
-    if b < a { b } else { a }
+pub struct FoundJob {
+    pub job: Job,
+    pub place: usize,
+    pub count: usize,
+    pub next: usize,
 }
 
 // Which job a command begins.
-fn first_of(command: u8) -> First
+fn first_of(command: u8) -> Option<First>
     ensures { result ≡ first_of command }
 {
-    if command == 0x00 {
-        return First::Read;
+    match command {
+        0x00 => Some(First::Read),
+        0x06 => Some(First::ReadOut),
+        0x80 => Some(First::Program),
+        0x60 => Some(First::Erase),
+        0x78 => Some(First::Status),
+        _ => None,
     }
-    if command == 0x06 {
-        return First::ReadOut;
-    }
-    if command == 0x80 {
-        return First::Program;
-    }
-    if command == 0x60 {
-        return First::Erase;
-    }
-    if command == 0x78 {
-        return First::Status;
-    }
-    First::Nothing
 }
 
-fn begins(kind: u8, value: u8) -> First
+fn begins(kind: u8, value: u8) -> Option<First>
     ensures { result ≡ beginning kind value }
 {
-    if kind == 0 {
-        return first_of(value);
-    }
-    First::Nothing
+    if kind == 0 { first_of(value) } else { None }
 }
 
 // Record `i` is of this kind. A data out with a value is none.
@@ -106,31 +60,160 @@ fn of_kind(kind: u8, trace: &[u8], i: usize) -> bool
     requires { 2 * i + 1 < length trace.now }
     ensures { result ≡ of_kind kind (get_or trace.now (2 * i) 0) (get_or trace.now (2 * i + 1) 0) }
 {
-    (trace[2 * i] == kind) & ((kind != 3) | (trace[2 * i + 1] == 0))
+    trace[2 * i] == kind && (kind != 3 || trace[2 * i + 1] == 0)
 }
 
-// How many of the `most` records from `at` on are of this kind, up to the first that is not.
-fn run_within(kind: u8, trace: &[u8], at: usize, most: usize) -> usize
-    requires { 2 * (at + most) ≤ length trace.now }
-    ensures { (result ≡ run most kind (drop (2 * at) trace.now)) × (result ≤ most) }
-{
-    let mut k: usize = 0;
-    while k < most {
-        if !of_kind(kind, trace, at + k) {
-            return k;
+// A place of a trace, no further than its end: what is read from there on.
+#[derive(Clone, Copy)]
+struct Spot<'a> {
+    trace: &'a [u8],
+    at: usize,
+    ghost within: { at ≤ length trace.now / 2 },
+}
+
+impl<'a> Spot<'a> {
+    // How many of the `most` records from here on are of this kind, up to the first that is not; of fewer, if so few are left.
+    fn run(&self, kind: u8, most: usize) -> usize
+        ensures { (result ≡ run most kind (drop (2 * self.now.at) self.now.trace.now)) × (self.now.at + result ≤ length self.now.trace.now / 2) × (result ≤ most) }
+    {
+        let left = most.min(self.trace.len() / 2 - self.at);
+        for k in 0..left {
+            if !of_kind(kind, self.trace, self.at + k) {
+                return k;
+            }
         }
-        k += 1;
+        left
     }
-    k
-}
 
-// The same, where fewer records may come.
-fn run_from(kind: u8, trace: &[u8], at: usize, most: usize) -> usize
-    requires { at ≤ length trace.now / 2 }
-    ensures { (result ≡ run most kind (drop (2 * at) trace.now)) × (at + result ≤ length trace.now / 2) × (result ≤ most) }
-{
-    let most = lesser(most, trace.len() / 2 - at);
-    run_within(kind, trace, at, most)
+    // All records of this kind from here on, where any number of them may come; else none are taken.
+    fn many(&self, wanted: bool, kind: u8) -> usize
+        ensures { (result ≡ pick wanted (many_of kind (drop (2 * self.now.at) self.now.trace.now)) 0) × (self.now.at + result ≤ length self.now.trace.now / 2) }
+    {
+        if wanted {
+            self.run(kind, self.trace.len())
+        } else {
+            0
+        }
+    }
+
+    // `n` addresses, data in where it may come, the last command, data out where it may come.
+    fn through_closed(
+        &self,
+        n: usize,
+        takes: bool,
+        closing: u8,
+        gives: bool,
+    ) -> Result<usize, Misfit>
+        ensures { result ≡ through (closed_items n takes closing gives) (drop (2 * self.now.at) self.now.trace.now) self.now.at }
+    {
+        let trace = self.trace;
+        let a = self.run(1, n);
+        if a < n {
+            return Err(Misfit { place: self.at + a });
+        }
+        let d = Spot {
+            trace,
+            at: self.at + n,
+        }
+        .many(takes, 2);
+        let p = self.at + n + d;
+        if !is_command(closing, trace, p) {
+            return Err(Misfit { place: p });
+        }
+        let o = Spot { trace, at: p + 1 }.many(gives, 3);
+        Ok(p + 1 + o)
+    }
+
+    // `n` addresses, and any number of data out.
+    fn through_open(&self, n: usize) -> Result<usize, Misfit>
+        ensures { result ≡ through (open_items n) (drop (2 * self.now.at) self.now.trace.now) self.now.at }
+    {
+        let trace = self.trace;
+        let a = self.run(1, n);
+        if a < n {
+            return Err(Misfit { place: self.at + a });
+        }
+        let o = Spot {
+            trace,
+            at: self.at + n,
+        }
+        .many(true, 3);
+        Ok(self.at + n + o)
+    }
+
+    // The value of the record `i` places further on, 0 where there is none.
+    fn value(&self, i: usize) -> usize
+        requires { i < 256 }
+        ensures { (result ≡ value_at (drop (2 * self.now.at) self.now.trace.now) i) × (result < 256) }
+    {
+        byte_at(self.trace, 2 * self.at + (2 * i + 1)) as usize
+    }
+
+    fn column(&self) -> usize
+        ensures { result ≡ column_at (drop (2 * self.now.at) self.now.trace.now) }
+    {
+        self.value(1) + 256 * self.value(2)
+    }
+
+    fn row(&self, i: usize) -> usize
+        requires { i < 200 }
+        ensures { result ≡ row_at (drop (2 * self.now.at) self.now.trace.now) i }
+    {
+        self.value(i) + 256 * self.value(i + 1) + 65536 * self.value(i + 2)
+    }
+
+    // The job that begins here and ends before `next`.
+    fn grouped(&self, first: First, next: usize) -> FoundJob
+        ensures { result ≡ grouped_of first (drop (2 * self.now.at) self.now.trace.now) self.now.at next }
+    {
+        let (job, place, count) = match first {
+            First::Read => {
+                let column = self.column();
+                let row = self.row(3);
+                (Job::Read { column, row }, 0, 0)
+            }
+            First::ReadOut => {
+                let column = self.column();
+                let row = self.row(3);
+                let count = next.saturating_sub(self.at + 7);
+                (Job::ReadOut { column, row, count }, 0, 0)
+            }
+            First::Program => {
+                let column = self.column();
+                let row = self.row(3);
+                let bytes = next.saturating_sub(self.at + 7);
+                (Job::Program { column, row }, self.at + 6, bytes)
+            }
+            First::Erase => {
+                let row = self.row(1);
+                (Job::Erase { row }, 0, 0)
+            }
+            First::Status => {
+                let row = self.row(1);
+                let count = next.saturating_sub(self.at + 4);
+                (Job::Status { row, count }, 0, 0)
+            }
+        };
+        FoundJob {
+            job,
+            place,
+            count,
+            next,
+        }
+    }
+
+    // How far a job's records fit, after its first: to the place after its last, or up to one that does not fit.
+    fn reach(&self, first: First) -> Result<usize, Misfit>
+        ensures { result ≡ through (items first) (drop (2 * self.now.at) self.now.trace.now) self.now.at }
+    {
+        match first {
+            First::Read => self.through_closed(5, false, 0x30, false),
+            First::ReadOut => self.through_closed(5, false, 0xe0, true),
+            First::Program => self.through_closed(5, true, 0x10, false),
+            First::Erase => self.through_closed(3, false, 0xd0, false),
+            First::Status => self.through_open(3),
+        }
+    }
 }
 
 // All records of this kind from `at` on, where any number of them may come; else none are taken.
@@ -138,10 +221,7 @@ pub fn many(wanted: bool, kind: u8, trace: &[u8], at: usize) -> usize
     requires { at ≤ length trace.now / 2 }
     ensures { (result ≡ pick wanted (many_of kind (drop (2 * at) trace.now)) 0) × (at + result ≤ length trace.now / 2) }
 {
-    if !wanted {
-        return 0;
-    }
-    run_from(kind, trace, at, trace.len())
+    Spot { trace, at }.many(wanted, kind)
 }
 
 // There is a record at `i`, and it is this command.
@@ -149,220 +229,37 @@ fn is_command(command: u8, trace: &[u8], i: usize) -> bool
     ensures value { result ≡ is_command command (drop (2 * i) trace.now) }
     ensures i_in_bounds { result ≡ true → i < length trace.now / 2 }
 {
-    if i < trace.len() / 2 {
-        (trace[2 * i] == 0) & (trace[2 * i + 1] == command)
-    } else {
-        false
-    }
+    i < trace.len() / 2 && trace[2 * i] == 0 && trace[2 * i + 1] == command
 }
 
-// `n` addresses, data in where it may come, the last command, data out where it may come.
-fn through_closed(
-    trace: &[u8],
-    at: usize,
-    n: usize,
-    takes: bool,
-    closing: u8,
-    gives: bool,
-) -> Reached
-    requires { at ≤ length trace.now / 2 }
-    ensures { result ≡ through (closed_items n takes closing gives) (drop (2 * at) trace.now) at }
-{
-    let a = run_from(1, trace, at, n);
-    if a < n {
-        return Reached::Stops(at + a);
-    }
-    let d = many(takes, 2, trace, at + n);
-    let p = at + n + d;
-    if !is_command(closing, trace, p) {
-        return Reached::Stops(p);
-    }
-    let o = many(gives, 3, trace, p + 1);
-    Reached::Whole(p + 1 + o)
-}
-
-// `n` addresses, and any number of data out.
-fn through_open(trace: &[u8], at: usize, n: usize) -> Reached
-    requires { at ≤ length trace.now / 2 }
-    ensures { result ≡ through (open_items n) (drop (2 * at) trace.now) at }
-{
-    let a = run_from(1, trace, at, n);
-    if a < n {
-        return Reached::Stops(at + a);
-    }
-    let o = many(true, 3, trace, at + n);
-    Reached::Whole(at + n + o)
-}
-
-// The value of the record `i` places after `at`, 0 where there is none.
-fn value_at(trace: &[u8], at: usize, i: usize) -> usize
-    requires { (at ≤ length trace.now / 2) × (i < 256) }
-    ensures { (result ≡ value_at (drop (2 * at) trace.now) i) × (result < 256) }
-{
-    wide(byte_at(trace, 2 * at + (2 * i + 1)))
-}
-
-fn column_at(trace: &[u8], at: usize) -> usize
-    requires { at ≤ length trace.now / 2 }
-    ensures { result ≡ column_at (drop (2 * at) trace.now) }
-{
-    let low = value_at(trace, at, 1);
-    let high = value_at(trace, at, 2);
-    low + 256 * high
-}
-
-fn row_at(trace: &[u8], at: usize, i: usize) -> usize
-    requires { (at ≤ length trace.now / 2) × (i < 200) }
-    ensures { result ≡ row_at (drop (2 * at) trace.now) i }
-{
-    let low = value_at(trace, at, i);
-    let mid = value_at(trace, at, i + 1);
-    let high = value_at(trace, at, i + 2);
-    low + 256 * mid + 65536 * high
-}
-
-// The job that begins at `at` and ends before `next`.
-fn grouped(first: First, trace: &[u8], at: usize, next: usize) -> Found
-    requires { at < length trace.now / 2 }
-    ensures { result ≡ grouped_of first (drop (2 * at) trace.now) at next }
-{
-    match first {
-        First::Nothing => Found::Misfit(at),
-        First::Read => {
-            let job = Job::Read {
-                column: column_at(trace, at),
-                row: row_at(trace, at, 3),
-            };
-            Found::Whole {
-                job,
-                data: 0,
-                count: 0,
-                next,
-            }
-        }
-        First::ReadOut => {
-            let job = Job::ReadOut {
-                column: column_at(trace, at),
-                row: row_at(trace, at, 3),
-                count: minus(next, at + 7),
-            };
-            Found::Whole {
-                job,
-                data: 0,
-                count: 0,
-                next,
-            }
-        }
-        First::Program => {
-            let job = Job::Program {
-                column: column_at(trace, at),
-                row: row_at(trace, at, 3),
-            };
-            Found::Whole {
-                job,
-                data: at + 6,
-                count: minus(next, at + 7),
-                next,
-            }
-        }
-        First::Erase => {
-            let job = Job::Erase {
-                row: row_at(trace, at, 1),
-            };
-            Found::Whole {
-                job,
-                data: 0,
-                count: 0,
-                next,
-            }
-        }
-        First::Status => {
-            let job = Job::Status {
-                row: row_at(trace, at, 1),
-                count: minus(next, at + 4),
-            };
-            Found::Whole {
-                job,
-                data: 0,
-                count: 0,
-                next,
-            }
-        }
-    }
-}
-
-// How far a job's records fit, after its first.
-fn reach(first: First, trace: &[u8], at: usize) -> Reached
-    requires { at ≤ length trace.now / 2 }
-    ensures { result ≡ through (items first) (drop (2 * at) trace.now) at }
-{
-    match first {
-        First::Nothing => Reached::Whole(at),
-        First::Read => through_closed(trace, at, 5, false, 0x30, false),
-        First::ReadOut => through_closed(trace, at, 5, false, 0xe0, true),
-        First::Program => through_closed(trace, at, 5, true, 0x10, false),
-        First::Erase => through_closed(trace, at, 3, false, 0xd0, false),
-        First::Status => through_open(trace, at, 3),
-    }
-}
-
-fn job_reached(first: First, trace: &[u8], at: usize, reached: Reached) -> Found
-    requires { at < length trace.now / 2 }
-    ensures { result ≡ found_of first (drop (2 * at) trace.now) at reached }
-{
-    match reached {
-        Reached::Stops(p) => Found::Misfit(p),
-        Reached::Whole(p) => grouped(first, trace, at, p),
-    }
-}
-
-// The job at a place.
-pub fn job_at(trace: &[u8], at: usize) -> Found
+// The job at a place; none where the list ends there, or before.
+pub fn job_at(trace: &[u8], at: usize) -> Result<Option<FoundJob>, Misfit>
     ensures { result ≡ job_at trace.now at }
 {
     let n = trace.len() / 2;
     if n < at {
-        return Found::End;
+        return Ok(None);
     }
     if n == at {
         if trace.len() % 2 == 0 {
-            return Found::End;
+            return Ok(None);
         }
-        return Found::Misfit(at);
+        return Err(Misfit { place: at });
     }
-    let first = begins(trace[2 * at], trace[2 * at + 1]);
-    match first {
-        First::Nothing => Found::Misfit(at),
-        First::Read => job_reached(first, trace, at, reach(first, trace, at + 1)),
-        First::ReadOut => job_reached(first, trace, at, reach(first, trace, at + 1)),
-        First::Program => job_reached(first, trace, at, reach(first, trace, at + 1)),
-        First::Erase => job_reached(first, trace, at, reach(first, trace, at + 1)),
-        First::Status => job_reached(first, trace, at, reach(first, trace, at + 1)),
-    }
+    let Some(first) = begins(trace[2 * at], trace[2 * at + 1]) else {
+        return Err(Misfit { place: at });
+    };
+    let next = Spot { trace, at: at + 1 }.reach(first)?;
+    Ok(Some(Spot { trace, at }.grouped(first, next)))
 }
 
-// Whether a list of records is whole jobs, and where it stops to be.
-pub fn first_misfit(trace: &[u8]) -> Listed
+// Whether a list of records is whole jobs, none or more, and where it stops to be.
+pub fn first_misfit(trace: &[u8]) -> Result<(), Misfit>
     ensures { result ≡ first_misfit trace.now }
 {
     let mut at: usize = 0;
-    loop {
-        let f = job_at(trace, at);
-        match f {
-            Found::End => {
-                return Listed::Jobs;
-            }
-            Found::Misfit(p) => {
-                return Listed::Misfit(p);
-            }
-            Found::Whole {
-                job: _,
-                data: _,
-                count: _,
-                next,
-            } => {
-                at = next;
-            }
-        }
+    while let Some(found) = job_at(trace, at)? {
+        at = found.next;
     }
+    Ok(())
 }

@@ -1,5 +1,5 @@
 -- The LUN records after an event (document 01, "Work", "Reset"; document 02, A1, A7).
-use Rattle.std.specs.Prelude.{ℕ, ◌+◌, ◌-◌, Bool, ◌&&◌, ◌||◌, not, List, set, eqb, ltb}
+use Rattle.std.specs.Prelude.{ℕ, ◌+◌, ◌-◌, Bool, ◌&&◌, ◌||◌, not, List, set, eqb, ltb, None, Option, Some}
 use Rattle.target.specs.Pick.{pick}
 use Rattle.target.specs.Address.{lun_of}
 use Rattle.target.specs.Commands.{closes_copyback, needs_copyback, second_row}
@@ -17,8 +17,6 @@ use Rattle.target.specs.declared.commands.Act.TheVariants as act
 use Rattle.target.specs.declared.views.Given.{Given}
 use Rattle.target.specs.declared.views.Given.TheVariants as given
 use Rattle.target.specs.declared.views.Ended.{Ended}
-use Rattle.target.specs.declared.views.Ender.{Ender}
-use Rattle.target.specs.declared.views.Ender.TheVariants as ender
 
 -- the LUN that the row names works from now on
 abbrev pub begun : Geometry → List Lun → Row → Bool → Bool → Bool → ℕ → List Lun
@@ -42,9 +40,9 @@ abbrev pub end_closes : Ended → Bool
 end_closes k = (second_row k.second).closes || needs_copyback k.first
 
 -- a LUN works from 30h, 35h, 10h or D0h on; FAIL is 1 where a program or an erase does not proceed, and 0 for a read
-abbrev pub ended_luns : Geometry → List Lun → Ender → Findings → List Lun
-ended_luns g luns ender.Nothing found = luns
-ended_luns g luns (ender.By k) found =
+abbrev pub ended_luns : Geometry → List Lun → Option Ended → Findings → List Lun
+ended_luns g luns None found = luns
+ended_luns g luns (Some k) found =
     pick (second_row k.second).starts
     (begun g luns k.row (not found.proceeds) (second_row k.second).opens (end_closes k)
     (blank_after g (second_row k.second).act found (blank_at luns (lun_of g k.row))))
@@ -55,12 +53,12 @@ abbrev pub finished : List Lun → ℕ → List Lun
 finished luns l = set luns l (lun_finished (lun_at luns l))
 
 -- 80h's row closes the copyback of the LUN that it names
-abbrev pub addressed_luns : Geometry → List Lun → Given → List Lun
-addressed_luns g luns given.Nothing = luns
-addressed_luns g luns (given.Column k) = luns
-addressed_luns g luns (given.Row k) =
+abbrev pub addressed_luns : Geometry → List Lun → Option Given → List Lun
+addressed_luns g luns None = luns
+addressed_luns g luns (Some (given.Column k)) = luns
+addressed_luns g luns (Some (given.Row k)) =
     pick (closes_copyback k.first) (set luns (lun_of g k.row) (lun_closed (lun_at luns (lun_of g k.row)))) luns
-addressed_luns g luns (given.Single k) = luns
+addressed_luns g luns (Some (given.Single k)) = luns
 
 -- FFh: every LUN ready, FAIL 0, no copyback; the numbers of blank blocks stay
 unfoldable pub luns_after : Geometry → List Lun → Sequence → Event → Findings → List Lun

@@ -1,4 +1,4 @@
-// The LUN records after an event. All by value.
+// The LUN records after an event. All by value. The limits are asked by a `requires`, as in `blocks`.
 #![tactic(auto)]
 
 ghost use Rattle.std.specs.Prelude.{◌≡◌, true, ◌-◌, set};
@@ -7,10 +7,9 @@ ghost use Rattle.lun_records.specs.LunsAfter.{begun, one_more, blank_after, end_
 
 use target::address::lun_of;
 use target::commands::{Act, closes_copyback, needs_copyback, second_row};
-use target::events::is_reset;
-use target::picks::pick_luns;
+use target::events::{Kind, is_reset};
 use target::records::{all_readied, blank_at, lun_at, lun_begun, lun_closed, lun_finished};
-use target::views::{Ended, Ender, Given, completed, ending};
+use target::views::{Ended, Given, completed, ending};
 use target::{Event, Findings, Geometry, Lun, Luns, Row, Sequence};
 
 // One LUN's record replaced, if there is such a LUN.
@@ -36,18 +35,15 @@ pub fn begun(
     ensures { result ≡ begun g luns r fail opens closes blank }
 {
     let l = lun_of(g, r);
-    with_lun(
-        luns,
-        l,
-        lun_begun(lun_at(luns, l), fail, opens, closes, blank),
-    )
+    let lun = lun_begun(lun_at(luns, l), fail, opens, closes, blank);
+    with_lun(luns, l, lun)
 }
 
 // One less, and never below 0.
 pub fn one_less(n: u16) -> u16
     ensures { result ≡ n - 1 }
 {
-    if n == 0 { 0 } else { n - 1 }
+    n.saturating_sub(1)
 }
 
 // One more, and never above the LUN's blocks.
@@ -64,23 +60,9 @@ pub fn blank_after(g: Geometry, a: Act, found: Findings, n: u16) -> u16
     ensures { result ≡ blank_after g a found n }
 {
     match a {
-        Act::Nothing => n,
-        Act::Load => n,
-        Act::Program => {
-            if found.proceeds & found.blank {
-                one_less(n)
-            } else {
-                n
-            }
-        }
-        Act::Erase => {
-            if found.proceeds & !found.blank {
-                one_more(g, n)
-            } else {
-                n
-            }
-        }
-        Act::Move => n,
+        Act::Program if found.proceeds && found.blank => one_less(n),
+        Act::Erase if found.proceeds && !found.blank => one_more(g, n),
+        _ => n,
     }
 }
 
@@ -88,28 +70,29 @@ pub fn blank_after(g: Geometry, a: Act, found: Findings, n: u16) -> u16
 pub fn end_closes(k: Ended) -> bool
     ensures { result ≡ end_closes k }
 {
-    let first = k.first;
-    let second = k.second;
-    let row = second_row(second);
-    row.closes | needs_copyback(first)
+    second_row(k.second).closes || needs_copyback(k.first)
 }
 
 // FAIL is 1 where a program or an erase does not proceed.
-pub fn ended_luns(g: Geometry, luns: Luns, k: Ender, found: Findings) -> Luns
+pub fn ended_luns(g: Geometry, luns: Luns, k: Option<Ended>, found: Findings) -> Luns
     requires { in_limits g ≡ true }
     ensures { result ≡ ended_luns g luns k found }
 {
     match k {
-        Ender::Nothing => luns,
-        Ender::By(k) => {
-            let second = k.second;
-            let r = k.row;
-            let row = second_row(second);
-            let a = row.act;
-            let blank = blank_after(g, a, found, blank_at(luns, lun_of(g, r)));
-            let luns_begun = begun(g, luns, r, !found.proceeds, row.opens, end_closes(k), blank);
-            pick_luns(row.starts, luns_begun, luns)
+        Some(k) if second_row(k.second).starts => {
+            let row = second_row(k.second);
+            let blank = blank_after(g, row.act, found, blank_at(luns, lun_of(g, k.row)));
+            begun(
+                g,
+                luns,
+                k.row,
+                !found.proceeds,
+                row.opens,
+                end_closes(k),
+                blank,
+            )
         }
+        _ => luns,
     }
 }
 
@@ -120,39 +103,30 @@ pub fn finished(luns: Luns, l: usize) -> Luns
 }
 
 // 80h's row closes the copyback of its LUN.
-pub fn addressed_luns(g: Geometry, luns: Luns, k: Given) -> Luns
+pub fn addressed_luns(g: Geometry, luns: Luns, k: Option<Given>) -> Luns
     ensures { result ≡ addressed_luns g luns k }
 {
     match k {
-        Given::Nothing => luns,
-        Given::Column(_) => luns,
-        Given::Row(k) => {
-            let f = k.first;
-            let r = k.row;
-            let l = lun_of(g, r);
-            let closed = with_lun(luns, l, lun_closed(lun_at(luns, l)));
-            pick_luns(closes_copyback(f), closed, luns)
+        Some(Given::Row(k)) if closes_copyback(k.first) => {
+            let l = lun_of(g, k.row);
+            with_lun(luns, l, lun_closed(lun_at(luns, l)))
         }
-        Given::Single(_) => luns,
+        _ => luns,
     }
 }
 
+#[tactic(auto, unfolding(crate::specs::LunsAfter::luns_after))]
 pub fn luns_after(g: Geometry, luns: Luns, s: Sequence, e: Event, found: Findings) -> Luns
     requires { in_limits g ≡ true }
     ensures { result ≡ luns_after g luns s e found }
 {
-    let v = e.value;
     if is_reset(e) {
         return all_readied(luns);
     }
-    if e.kind == 0 {
-        return ended_luns(g, luns, ending(s, v), found);
+    match e.kind() {
+        Some(Kind::Command) => ended_luns(g, luns, ending(s, e.value), found),
+        Some(Kind::Address) => addressed_luns(g, luns, completed(s, e.value)),
+        Some(Kind::Finish) => finished(luns, e.value as usize),
+        _ => luns,
     }
-    if e.kind == 1 {
-        return addressed_luns(g, luns, completed(s, v));
-    }
-    if e.kind == 4 {
-        return finished(luns, v as usize);
-    }
-    luns
 }

@@ -1,16 +1,13 @@
 -- Which command the arguments name. Words are lists of ASCII codes.
-use Rattle.std.specs.Prelude.{ℕ, Bool, true, false, ◌&&◌, ◌||◌, not, List, [], ◌∷◌, eqb, get_or}
-use Rattle.target.specs.Pick.{pick}
+use Rattle.std.specs.Prelude.{ℕ, Bool, true, false, ◌&&◌, ◌||◌, not, List, [], ◌∷◌, eqb, get_or, if◌then◌else◌, Option, Some, None}
+use Rattle.std.specs.Str.{bytes_eq}
 use Rattle.nib_args.specs.declared.Asked.{Asked}
-use Rattle.nib_args.specs.declared.Asked.TheVariants.{Demo, New, NewFrom, Run, Explain, ExplainEach, Test, Dump, Diff, Text, TextOn, Back, Jobs, JobsOn, Page, Check, Parts, Version, Help, Wrong}
+use Rattle.nib_args.specs.declared.Asked.TheVariants.{Demo, New, NewFrom, Run, Explain, ExplainEach, Test, Dump, Diff, Text, TextOn, Back, Jobs, JobsOn, Page, Check, Parts, Version, Help}
 use Rattle.nib_args.specs.declared.May.{May}
 
 -- the same bytes in the same order
-unfoldable pub same_bytes : List ℕ → List ℕ → Bool
-same_bytes [] [] = true
-same_bytes [] (b ∷ t) = false
-same_bytes (a ∷ s) [] = false
-same_bytes (a ∷ s) (b ∷ t) = eqb a b && same_bytes s t
+abbrev pub same_bytes : List ℕ → List ℕ → Bool
+same_bytes s t = bytes_eq s t
 
 -- demo, text, jobs, help, version, parts, --help
 abbrev pub demo_word : List ℕ
@@ -66,84 +63,66 @@ abbrev pub each_flag : List ℕ
 each_flag = 45 ∷ 118 ∷ []
 
 -- a word by itself
-unfoldable pub alone_of : List ℕ → Asked
+abbrev pub alone_of : List ℕ → Option Asked
 alone_of w =
-    pick (same_bytes w demo_word) Demo
-    (pick (same_bytes w text_word) Text
-    (pick (same_bytes w jobs_word) Jobs
-    (pick (same_bytes w parts_word) Parts
-    (pick (same_bytes w version_word) Version
-    (pick (same_bytes w help_word || same_bytes w help_flag) Help
-    Wrong)))))
+    if same_bytes w demo_word then Some Demo
+    else (if same_bytes w text_word then Some Text
+    else (if same_bytes w jobs_word then Some Jobs
+    else (if same_bytes w parts_word then Some Parts
+    else (if same_bytes w version_word then Some Version
+    else (if same_bytes w help_word || same_bytes w help_flag then Some Help
+    else None)))))
 
 -- an argument that begins with a dash is no folder and no file
-unfoldable pub dashed : List ℕ → Bool
+abbrev pub dashed : List ℕ → Bool
 dashed v = eqb (get_or v 0 0) 45
 
 -- a command that takes a folder or a file
-unfoldable pub named : List ℕ → Asked
+abbrev pub named : List ℕ → Option Asked
 named w =
-    pick (same_bytes w new_word) New
-    (pick (same_bytes w run_word) Run
-    (pick (same_bytes w explain_word) Explain
-    (pick (same_bytes w test_word) Test
-    (pick (same_bytes w text_word) TextOn
-    (pick (same_bytes w jobs_word) JobsOn
-    (pick (same_bytes w page_word) Page
-    (pick (same_bytes w check_word) Check
-    Wrong)))))))
+    if same_bytes w new_word then Some New
+    else (if same_bytes w run_word then Some Run
+    else (if same_bytes w explain_word then Some Explain
+    else (if same_bytes w test_word then Some Test
+    else (if same_bytes w text_word then Some TextOn
+    else (if same_bytes w jobs_word then Some JobsOn
+    else (if same_bytes w page_word then Some Page
+    else (if same_bytes w check_word then Some Check
+    else None)))))))
 
 -- a word with another after it: a folder, a file, -d or --help
-unfoldable pub with_one_of : List ℕ → List ℕ → Asked
+abbrev pub with_one_of : List ℕ → List ℕ → Option Asked
 with_one_of w v =
-    pick (same_bytes v help_flag) Help
-    (pick (same_bytes w text_word && same_bytes v back_flag) Back
-    (pick (dashed v) Wrong
-    (named w)))
+    if same_bytes v help_flag then Some Help
+    else (if same_bytes w text_word && same_bytes v back_flag then Some Back
+    else (if dashed v then None
+    else named w))
 
 -- a word with two others after it: a folder and a part or a folder, or -v and a folder
-unfoldable pub with_two_of : List ℕ → List ℕ → List ℕ → Asked
+abbrev pub with_two_of : List ℕ → List ℕ → List ℕ → Option Asked
 with_two_of w v u =
-    pick (same_bytes u help_flag) Help
-    (pick (dashed u) Wrong
-    (pick (same_bytes w explain_word && same_bytes v each_flag) ExplainEach
-    (pick (dashed v) Wrong
-    (pick (same_bytes w new_word) NewFrom
-    (pick (same_bytes w diff_word) Diff
-    Wrong)))))
+    if same_bytes u help_flag then Some Help
+    else (if dashed u then None
+    else (if same_bytes w explain_word && same_bytes v each_flag then Some ExplainEach
+    else (if dashed v then None
+    else (if same_bytes w new_word then Some NewFrom
+    else (if same_bytes w diff_word then Some Diff
+    else None)))))
 
 -- n arguments were given, the program's own name among them
-unfoldable pub asked_of : ℕ → List ℕ → List ℕ → List ℕ → Asked
+abbrev pub asked_of : ℕ → List ℕ → List ℕ → List ℕ → Option Asked
 asked_of n w v u =
-    pick (eqb n 2) (alone_of w)
-    (pick (eqb n 3) (with_one_of w v)
-    (pick (eqb n 4) (with_two_of w v u)
-    (pick (eqb n 6 && same_bytes w dump_word && not (dashed v)) Dump
-    Wrong)))
+    if eqb n 2 then alone_of w
+    else (if eqb n 3 then with_one_of w v
+    else (if eqb n 4 then with_two_of w v u
+    else (if eqb n 6 && same_bytes w dump_word && not (dashed v) then Some Dump
+    else None)))
 
--- what a command does to files: 1 makes a folder, as `new`; 2 stores array, counts and registers, as `run` and `test`; no other
--- does either
-abbrev pub touches : Asked → ℕ
-touches Demo = 0
-touches New = 1
-touches NewFrom = 1
-touches Run = 2
-touches Explain = 0
-touches ExplainEach = 0
-touches Test = 2
-touches Dump = 0
-touches Diff = 0
-touches Text = 0
-touches TextOn = 0
-touches Back = 0
-touches Jobs = 0
-touches JobsOn = 0
-touches Page = 0
-touches Check = 0
-touches Parts = 0
-touches Version = 0
-touches Help = 0
-touches Wrong = 0
-
-abbrev pub may_of : Asked → May
-may_of asked = record { make = eqb (touches asked) 1; store = eqb (touches asked) 2 }
+-- what a command may do to files: `new` makes a folder; `run` and `test` store array, counts and registers; no other does either,
+-- and nothing that is no command
+abbrev pub may_of : Option Asked → May
+may_of (Some New) = record { make = true; store = false }
+may_of (Some NewFrom) = record { make = true; store = false }
+may_of (Some Run) = record { make = false; store = true }
+may_of (Some Test) = record { make = false; store = true }
+may_of _ = record { make = false; store = false }

@@ -12,9 +12,8 @@ ghost use Rattle.nib_places.specs.Places.{row_of};
 ghost use Rattle.nib_speech.specs.Expects.{expect_next, expect_ok, expect_refusal, expect_bytes, since_of};
 ghost use Rattle.nib_speech.specs.Folds.{fold_next, fold_goes, run_said, reply_said};
 ghost use Rattle.nib_speech.specs.Pieces.{back_words, end_words, line_said, reason_words};
-ghost use Rattle.nib_speech.specs.Speech.{version_number, text_next, text_said, text_job, text_listed, said_on, sizes, text_begins, back_next};
-ghost use Rattle.nib_told.specs.Lines.{line_at};
-ghost use Rattle.nib_words.specs.Desk.{Desk, wrote};
+ghost use Rattle.nib_speech.specs.Speech.{version_number, text_next, text_said, text_job, text_listed, said_on, sizes, text_begins, back_next, Says};
+ghost use Rattle.nib_told.specs.Lines.{next_place};
 ghost use Rattle.nib_words.specs.Say.{event_words, reply_words, rule_words};
 ghost use Rattle.page_check.specs.Report.{Reported, report_of};
 
@@ -221,7 +220,7 @@ pub extern "C" fn nib_back_next(state: u64, byte: u8) -> u64
 // The text of that byte onto `out`, as much of it as there is room for; how many bytes. 64 are room enough.
 #[unsafe(no_mangle)]
 pub extern "C" fn nib_back_text(state: u64, byte: u8, out: &mut [u8]) -> usize
-    ensures { ◌≡◌ {A = Desk} (record { room = out.new; at = result }) (wrote (record { room = out.old; at = 0 }) (back_words state byte)) }
+    ensures { Says out.old out.new result (back_words state byte) }
 {
     nib_speech::nib_back_text(state, byte, out)
 }
@@ -229,7 +228,7 @@ pub extern "C" fn nib_back_text(state: u64, byte: u8, out: &mut [u8]) -> usize
 // The text of a trace's end.
 #[unsafe(no_mangle)]
 pub extern "C" fn nib_back_end(state: u64, out: &mut [u8]) -> usize
-    ensures { ◌≡◌ {A = Desk} (record { room = out.new; at = result }) (wrote (record { room = out.old; at = 0 }) (end_words state)) }
+    ensures { Says out.old out.new result (end_words state) }
 {
     nib_speech::nib_back_end(state, out)
 }
@@ -238,7 +237,7 @@ pub extern "C" fn nib_back_end(state: u64, out: &mut [u8]) -> usize
 // are room enough.
 #[unsafe(no_mangle)]
 pub extern "C" fn nib_say_event(odd: u8, kind: u8, value: u8, inside: u8, out: &mut [u8]) -> usize
-    ensures { ◌≡◌ {A = Desk} (record { room = out.new; at = result }) (wrote (record { room = out.old; at = 0 }) (event_words (not (eqb odd 0)) kind value (not (eqb inside 0)))) }
+    ensures { Says out.old out.new result (event_words (not (eqb odd 0)) kind value (not (eqb inside 0))) }
 {
     nib_speech::nib_say_event(odd, kind, value, inside, out)
 }
@@ -246,7 +245,7 @@ pub extern "C" fn nib_say_event(odd: u8, kind: u8, value: u8, inside: u8, out: &
 // A reply in words, `lun` being the LUN that its event is about. 128 are room enough.
 #[unsafe(no_mangle)]
 pub extern "C" fn nib_say_reply(first: u8, second: u8, lun: usize, out: &mut [u8]) -> usize
-    ensures { ◌≡◌ {A = Desk} (record { room = out.new; at = result }) (wrote (record { room = out.old; at = 0 }) (reply_words first second lun)) }
+    ensures { Says out.old out.new result (reply_words first second lun) }
 {
     nib_speech::nib_say_reply(first, second, lun, out)
 }
@@ -254,7 +253,7 @@ pub extern "C" fn nib_say_reply(first: u8, second: u8, lun: usize, out: &mut [u8
 // The words of a refusal's rule; none where no rule has the number. 96 are room enough.
 #[unsafe(no_mangle)]
 pub extern "C" fn nib_say_rule(number: u8, out: &mut [u8]) -> usize
-    ensures { ◌≡◌ {A = Desk} (record { room = out.new; at = result }) (wrote (record { room = out.old; at = 0 }) (rule_words number)) }
+    ensures { Says out.old out.new result (rule_words number) }
 {
     nib_speech::nib_say_rule(number, out)
 }
@@ -263,7 +262,7 @@ pub extern "C" fn nib_say_rule(number: u8, out: &mut [u8]) -> usize
 // record there.
 #[unsafe(no_mangle)]
 pub extern "C" fn nib_line_next(records: &[u8], at: usize) -> usize
-    ensures { result ≡ (line_at records.now at).next }
+    ensures { result ≡ next_place records.now at }
 {
     nib_speech::nib_line_next(records, at)
 }
@@ -279,7 +278,7 @@ pub extern "C" fn nib_say_line(
     columns: u16,
     out: &mut [u8],
 ) -> usize
-    ensures { ◌≡◌ {A = Desk} (record { room = out.new; at = result }) (wrote (record { room = out.old; at = 0 }) (line_said records.now at (sizes luns blocks pages columns))) }
+    ensures { Says out.old out.new result (line_said records.now at (sizes luns blocks pages columns)) }
 {
     nib_speech::nib_say_line(records, at, luns, blocks, pages, columns, out)
 }
@@ -287,7 +286,7 @@ pub extern "C" fn nib_say_line(
 // The words of why a word of a text is bad, 1 to 14 as `nib_text_said` gives it; none for another number. 128 are room enough.
 #[unsafe(no_mangle)]
 pub extern "C" fn nib_say_wrong(which: u8, out: &mut [u8]) -> usize
-    ensures { ◌≡◌ {A = Desk} (record { room = out.new; at = result }) (wrote (record { room = out.old; at = 0 }) (reason_words which)) }
+    ensures { Says out.old out.new result (reason_words which) }
 {
     nib_speech::nib_say_wrong(which, out)
 }
@@ -327,7 +326,7 @@ pub extern "C" fn nib_expect_bytes(state: u64, given: &[u8], wanted: &[u8]) -> u
 // The words of an `ok` that failed.
 #[unsafe(no_mangle)]
 pub extern "C" fn nib_say_not_ok(state: u64, out: &mut [u8]) -> usize
-    ensures { ◌≡◌ {A = Desk} (record { room = out.new; at = result }) (wrote (record { room = out.old; at = 0 }) (ok_words (since_of state))) }
+    ensures { Says out.old out.new result (ok_words (since_of state)) }
 {
     nib_speech::expects::nib_say_not_ok(state, out)
 }
@@ -335,7 +334,7 @@ pub extern "C" fn nib_say_not_ok(state: u64, out: &mut [u8]) -> usize
 // The words of a refusal that was expected and did not come; `last` is the number of the last event.
 #[unsafe(no_mangle)]
 pub extern "C" fn nib_say_not_refusal(state: u64, last: usize, refusal: u8, out: &mut [u8]) -> usize
-    ensures { ◌≡◌ {A = Desk} (record { room = out.new; at = result }) (wrote (record { room = out.old; at = 0 }) (refusal_words (since_of state) last refusal)) }
+    ensures { Says out.old out.new result (refusal_words (since_of state) last refusal) }
 {
     nib_speech::expects::nib_say_not_refusal(state, last, refusal, out)
 }
@@ -348,7 +347,7 @@ pub extern "C" fn nib_say_not_bytes(
     wanted: &[u8],
     out: &mut [u8],
 ) -> usize
-    ensures { ◌≡◌ {A = Desk} (record { room = out.new; at = result }) (wrote (record { room = out.old; at = 0 }) (bytes_failed (since_of state) given.now wanted.now)) }
+    ensures { Says out.old out.new result (bytes_failed (since_of state) given.now wanted.now) }
 {
     nib_speech::expects::nib_say_not_bytes(state, given, wanted, out)
 }
@@ -356,7 +355,7 @@ pub extern "C" fn nib_say_not_bytes(
 // How many events and expectations a script had.
 #[unsafe(no_mangle)]
 pub extern "C" fn nib_say_script(events: usize, expected: usize, out: &mut [u8]) -> usize
-    ensures { ◌≡◌ {A = Desk} (record { room = out.new; at = result }) (wrote (record { room = out.old; at = 0 }) (script_words events expected)) }
+    ensures { Says out.old out.new result (script_words events expected) }
 {
     nib_speech::expects::nib_say_script(events, expected, out)
 }
@@ -364,7 +363,7 @@ pub extern "C" fn nib_say_script(events: usize, expected: usize, out: &mut [u8])
 // How many of its expectations failed.
 #[unsafe(no_mangle)]
 pub extern "C" fn nib_say_failed(failed: usize, expected: usize, out: &mut [u8]) -> usize
-    ensures { ◌≡◌ {A = Desk} (record { room = out.new; at = result }) (wrote (record { room = out.old; at = 0 }) (failed_words failed expected)) }
+    ensures { Says out.old out.new result (failed_words failed expected) }
 {
     nib_speech::expects::nib_say_failed(failed, expected, out)
 }
@@ -402,7 +401,7 @@ pub extern "C" fn nib_fold_goes(
 // The cycles that are held back, in words; `bytes` are the first of their bytes.
 #[unsafe(no_mangle)]
 pub extern "C" fn nib_say_run(state: u64, bytes: &[u8], out: &mut [u8]) -> usize
-    ensures { ◌≡◌ {A = Desk} (record { room = out.new; at = result }) (wrote (record { room = out.old; at = 0 }) (run_said state bytes.now)) }
+    ensures { Says out.old out.new result (run_said state bytes.now) }
 {
     nib_speech::folds::nib_say_run(state, bytes, out)
 }
@@ -410,7 +409,7 @@ pub extern "C" fn nib_say_run(state: u64, bytes: &[u8], out: &mut [u8]) -> usize
 // Their replies.
 #[unsafe(no_mangle)]
 pub extern "C" fn nib_say_run_reply(state: u64, bytes: &[u8], out: &mut [u8]) -> usize
-    ensures { ◌≡◌ {A = Desk} (record { room = out.new; at = result }) (wrote (record { room = out.old; at = 0 }) (reply_said state bytes.now)) }
+    ensures { Says out.old out.new result (reply_said state bytes.now) }
 {
     nib_speech::folds::nib_say_run_reply(state, bytes, out)
 }
@@ -425,7 +424,7 @@ pub extern "C" fn nib_say_row(
     pages: usize,
     out: &mut [u8],
 ) -> usize
-    ensures { ◌≡◌ {A = Desk} (record { room = out.new; at = result }) (wrote (record { room = out.old; at = 0 }) (row_at first (sizes luns blocks pages 0) row)) }
+    ensures { Says out.old out.new result (row_at first (sizes luns blocks pages 0) row) }
 {
     nib_speech::folds::nib_say_row(first, row, luns, blocks, pages, out)
 }
@@ -433,7 +432,7 @@ pub extern "C" fn nib_say_row(
 // A status byte in words.
 #[unsafe(no_mangle)]
 pub extern "C" fn nib_say_status(byte: u8, out: &mut [u8]) -> usize
-    ensures { ◌≡◌ {A = Desk} (record { room = out.new; at = result }) (wrote (record { room = out.old; at = 0 }) (status_words byte)) }
+    ensures { Says out.old out.new result (status_words byte) }
 {
     nib_speech::folds::nib_say_status(byte, out)
 }
@@ -449,7 +448,7 @@ pub extern "C" fn nib_tally(counts: &mut [usize], first: u8, second: u8)
 // The counts of so many events in words.
 #[unsafe(no_mangle)]
 pub extern "C" fn nib_say_tally(events: usize, counts: &[usize], out: &mut [u8]) -> usize
-    ensures { ◌≡◌ {A = Desk} (record { room = out.new; at = result }) (wrote (record { room = out.old; at = 0 }) (tally_words events counts.now)) }
+    ensures { Says out.old out.new result (tally_words events counts.now) }
 {
     nib_speech::folds::nib_say_tally(events, counts, out)
 }

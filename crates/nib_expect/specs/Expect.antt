@@ -1,7 +1,6 @@
 -- What a script expects. An expectation speaks of the events since the expectation before it, or since the script's beginning:
 -- of what each of them was answered.
-use Rattle.std.specs.Prelude.{ℕ, ◌<◌, ◌≡◌, Bool, true, false, ◌&&◌, ◌||◌, not, List, [], ◌∷◌, eqb, ltb, length, take}
-use Rattle.target.specs.Pick.{pick}
+use Rattle.std.specs.Prelude.{ℕ, ◌<◌, ◌≡◌, Bool, true, false, ◌&&◌, ◌||◌, not, List, [], ◌∷◌, eqb, ltb, length, take, if◌then◌else◌}
 use Rattle.nib_args.specs.Asked.{same_bytes}
 use Rattle.nib_expect.specs.declared.Since.{Since}
 
@@ -25,7 +24,7 @@ held_ok (a ∷ rs) = not (refused a.first) && held_ok rs
 -- the bytes that their data outs gave
 abbrev pub bytes_of : List Answer → List ℕ
 bytes_of [] = []
-bytes_of (a ∷ rs) = pick (gives a.first) (a.second ∷ bytes_of rs) (bytes_of rs)
+bytes_of (a ∷ rs) = if gives a.first then a.second ∷ bytes_of rs else bytes_of rs
 
 -- = and bytes: none of them was refused, and these bytes and no others came, in this order
 abbrev pub held_bytes : List Answer → List ℕ → Bool
@@ -41,23 +40,23 @@ held_refusal (a ∷ (b ∷ rs)) n = not (refused a.first) && held_refusal (b ∷
 abbrev pub nothing : Since
 nothing = record { any = false; spoiled = false; first = 0; second = 0; event = 0; refusal = 0 }
 
-unfoldable pub ok_holds : Since → Bool
+abbrev pub ok_holds : Since → Bool
 ok_holds s = not (s.spoiled || refused s.first)
 
-unfoldable pub refusal_holds : Since → ℕ → Bool
+abbrev pub refusal_holds : Since → ℕ → Bool
 refusal_holds s n = not s.spoiled && refused s.first && eqb s.second n
 
-unfoldable pub bytes_hold : Since → List ℕ → List ℕ → Bool
+abbrev pub bytes_hold : Since → List ℕ → List ℕ → Bool
 bytes_hold s given wanted = ok_holds s && same_bytes given wanted
 
-unfoldable pub after : Since → ℕ → ℕ → ℕ → Since
+abbrev pub after : Since → ℕ → ℕ → ℕ → Since
 after s number first second = record {
   any = true;
   spoiled = s.spoiled || refused s.first;
   first = first;
   second = second;
-  event = pick (ok_holds s && refused first) number s.event;
-  refusal = pick (ok_holds s && refused first) second s.refusal;
+  event = if ok_holds s && refused first then number else s.event;
+  refusal = if ok_holds s && refused first then second else s.refusal;
 }
 
 abbrev pub after_all : Since → List Answer → Since
@@ -67,7 +66,7 @@ after_all s (a ∷ rs) = after_all (after s a.number a.first a.second) rs
 -- of the first one that was refused, its number or its refusal; `d` where none was
 abbrev pub first_refused : (Answer → ℕ) → ℕ → List Answer → ℕ
 first_refused f d [] = d
-first_refused f d (a ∷ rs) = pick (refused a.first) (f a) (first_refused f d rs)
+first_refused f d (a ∷ rs) = if refused a.first then f a else first_refused f d rs
 
 -- What is kept decides just the expectations above, and names the first event that was refused; a room for bytes that is longer
 -- than the list wanted is room enough, though more bytes come than it holds (proved in proofs/Laws.antt)

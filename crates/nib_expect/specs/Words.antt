@@ -1,6 +1,6 @@
 -- An expectation that failed, in words: what was expected, and what came instead. And how a script went.
-use Rattle.std.specs.Prelude.{ℕ, true, ◌&&◌, ◌||◌, not, List, [], ◌∷◌, ◌++◌, eqb, ltb, length, get_or}
-use Rattle.nib_words.specs.Desk.{ascii, when, byte_words, decimal}
+use Rattle.std.specs.Prelude.{ℕ, ◌&&◌, ◌||◌, not, List, [], ◌∷◌, ◌++◌, eqb, ltb, length, take, if◌then◌else◌}
+use Rattle.nib_words.specs.Desk.{ascii, when, byte_words, listed, decimal}
 use Rattle.nib_words.specs.Say.{refused_words}
 use Rattle.nib_expect.specs.Expect.{refused, gives}
 use Rattle.nib_expect.specs.declared.Since.{Since}
@@ -9,30 +9,9 @@ use Rattle.nib_expect.specs.declared.Since.{Since}
 unfoldable pub event_words : Since → List ℕ
 event_words s = ascii " event " ++ (decimal s.event ++ (ascii " was " ++ refused_words s.refusal))
 
--- a byte of a list, where it has so many
-unfoldable pub one_word : List ℕ → ℕ → List ℕ
-one_word s i = when (ltb i (length s)) ((32 ∷ []) ++ byte_words (get_or s i 0))
-
 -- a list of bytes, and of a long one its first 16
 unfoldable pub bytes_words : List ℕ → List ℕ
-bytes_words s =
-    one_word s 0
-    ++ (one_word s 1
-    ++ (one_word s 2
-    ++ (one_word s 3
-    ++ (one_word s 4
-    ++ (one_word s 5
-    ++ (one_word s 6
-    ++ (one_word s 7
-    ++ (one_word s 8
-    ++ (one_word s 9
-    ++ (one_word s 10
-    ++ (one_word s 11
-    ++ (one_word s 12
-    ++ (one_word s 13
-    ++ (one_word s 14
-    ++ (one_word s 15
-    ++ when (ltb 16 (length s)) (ascii " .."))))))))))))))))
+bytes_words s = if ltb 16 (length s) then listed (take 16 s) ++ ascii " .." else listed s
 
 unfoldable pub came_words : List ℕ → List ℕ
 came_words given = when (eqb (length given) 0) (ascii " no byte") ++ (bytes_words given ++ ascii " came")
@@ -43,18 +22,17 @@ gave_words b = ascii " gave " ++ byte_words b
 unfoldable pub refused_last : ℕ → List ℕ
 refused_last n = ascii " was " ++ refused_words n
 
+abbrev pub answer_words : ℕ → ℕ → List ℕ
+answer_words first second =
+    if eqb first 0 then ascii " was accepted" else (if gives first then gave_words second else refused_last second)
+
 -- ' event 12 was accepted': the last
 unfoldable pub last_words : Since → ℕ → List ℕ
-last_words s last =
-    ascii " event "
-    ++ (decimal last
-    ++ (when (eqb s.first 0) (ascii " was accepted")
-    ++ (when (gives s.first) (gave_words s.second)
-    ++ when (refused s.first) (refused_last s.second))))
+last_words s last = ascii " event " ++ (decimal last ++ answer_words s.first s.second)
 
 -- ok
 unfoldable pub ok_words : Since → List ℕ
-ok_words s = ascii "expected ok;" ++ when true (event_words s)
+ok_words s = ascii "expected ok;" ++ event_words s
 
 -- ! and a number
 unfoldable pub refusal_words : Since → ℕ → ℕ → List ℕ
@@ -68,13 +46,11 @@ refusal_words s last n =
     ++ when (s.any && not s.spoiled) (last_words s last))))))
 
 -- = and bytes: the first event that was refused, or else the bytes that came
+abbrev pub instead_words : Since → List ℕ → List ℕ
+instead_words s given = if s.spoiled || refused s.first then event_words s else came_words given
+
 unfoldable pub bytes_failed : Since → List ℕ → List ℕ → List ℕ
-bytes_failed s given wanted =
-    ascii "expected bytes"
-    ++ (bytes_words wanted
-    ++ ((59 ∷ [])
-    ++ (when (not (s.spoiled || refused s.first)) (came_words given)
-    ++ when (s.spoiled || refused s.first) (event_words s))))
+bytes_failed s given wanted = ascii "expected bytes" ++ (bytes_words wanted ++ ((59 ∷ []) ++ instead_words s given))
 
 -- '12 events, 5 expectations'
 unfoldable pub script_words : ℕ → ℕ → List ℕ

@@ -8,9 +8,9 @@ ghost use Rattle.std.specs.Prelude.{◌≡◌};
 ghost use Rattle.nib_expect.specs.Expect.{refused, gives, nothing, after, ok_holds, refusal_holds, bytes_hold};
 
 use nib_args::is_word;
-use target::picks::{pick_byte, pick_number};
 
-// What the events since the last expectation were answered, or those since the script's beginning.
+// What the events since the last expectation were answered, or those since the script's beginning. Replies are held as their two
+// bytes, and the first refusal as numbers of which 0 is none, since C holds all of it in one number (`nib_expect_next`).
 #[derive(Clone, Copy)]
 pub struct Since {
     // an event has come
@@ -56,34 +56,34 @@ pub fn nothing() -> Since
 pub fn ok_holds(s: Since) -> bool
     ensures { result ≡ ok_holds s }
 {
-    !(s.spoiled | is_refused(s.first))
+    !(s.spoiled || is_refused(s.first))
 }
 
 // The last event was refused so, and no other was.
 pub fn refusal_holds(s: Since, n: u8) -> bool
     ensures { result ≡ refusal_holds s n }
 {
-    !s.spoiled & is_refused(s.first) & (s.second == n)
+    !s.spoiled && is_refused(s.first) && s.second == n
 }
 
 // No event was refused, and the bytes that were given are those that are wanted.
 pub fn bytes_hold(s: Since, given: &[u8], wanted: &[u8]) -> bool
     ensures { result ≡ bytes_hold s given.now wanted.now }
 {
-    ok_holds(s) & is_word(given, wanted)
+    ok_holds(s) && is_word(given, wanted)
 }
 
 // One event more: its number in the script, and its reply.
 pub fn after(s: Since, number: usize, first: u8, second: u8) -> Since
     ensures { result ≡ after s number first second }
 {
-    let fresh = ok_holds(s) & is_refused(first);
+    let fresh = ok_holds(s) && is_refused(first);
     Since {
         any: true,
-        spoiled: s.spoiled | is_refused(s.first),
+        spoiled: s.spoiled || is_refused(s.first),
         first,
         second,
-        event: pick_number(fresh, number, s.event),
-        refusal: pick_byte(fresh, second, s.refusal),
+        event: if fresh { number } else { s.event },
+        refusal: if fresh { second } else { s.refusal },
     }
 }

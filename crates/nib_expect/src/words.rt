@@ -1,166 +1,155 @@
 // An expectation that failed, in words: what was expected, and what came instead. And how a script went. Bytes on a desk.
-ghost use Rattle.std.specs.Prelude.{◌≡◌};
-ghost use Rattle.nib_words.specs.Desk.{Desk, wrote, when};
-ghost use Rattle.nib_words.specs.Say.{refused_words};
-ghost use Rattle.nib_expect.specs.Words.{event_words, one_word, bytes_words, gave_words, came_words, refused_last, last_words, ok_words, refusal_words, bytes_failed, script_words, failed_words};
+ghost use Rattle.nib_words.specs.Desk.{Writes, when};
+ghost use Rattle.nib_expect.specs.Words.{event_words, bytes_words, gave_words, came_words, refused_last, answer_words, last_words, ok_words, refusal_words, instead_words, bytes_failed, script_words, failed_words};
 
-use crate::Since;
-use nib_words::desk::{byte, number, put, put_if, say, say_if};
-use nib_words::say::refused;
+use crate::{Since, is_refused};
+use nib_words::desk::Desk;
+use nib_words::say::{listed, refused};
 
-// 'event 9 was refused 4: ..': the first that was refused.
-fn event_words(out: &mut [u8], at: usize, on: bool, s: Since) -> usize
-    ensures { ◌≡◌ {A = Desk} (record { room = out.new; at = result }) (wrote (record { room = out.old; at = at }) (when on (event_words s))) }
+// ' event 9 was refused 4: ..': the first that was refused.
+fn event_words(desk: &mut Desk<'_>, s: Since)
+    ensures { Writes desk.old desk.new (event_words s) }
 {
-    if on {
-        let at = say(out, at, b" event ");
-        let at = number(out, at, s.event);
-        let at = say(out, at, b" was ");
-        refused(out, at, s.refusal)
-    } else {
-        at
-    }
+    desk.say(b" event ");
+    desk.number(s.event);
+    desk.say(b" was ");
+    refused(desk, s.refusal);
 }
 
-// A byte of a list, where it has so many.
-fn one_word(out: &mut [u8], at: usize, list: &[u8], i: usize) -> usize
-    ensures { ◌≡◌ {A = Desk} (record { room = out.new; at = result }) (wrote (record { room = out.old; at = at }) (one_word list.now i)) }
+#[tactic(auto, using(nib_words::proofs::Desks::none))]
+fn event_if(desk: &mut Desk<'_>, on: bool, s: Since)
+    ensures { Writes desk.old desk.new (when on (event_words s)) }
 {
-    if i < list.len() {
-        let at = put(out, at, b' ');
-        byte(out, at, list[i])
-    } else {
-        at
+    if on {
+        event_words(desk, s);
     }
 }
 
 // A list of bytes, and of a long one its first 16.
-fn bytes_words(out: &mut [u8], at: usize, list: &[u8]) -> usize
-    ensures { ◌≡◌ {A = Desk} (record { room = out.new; at = result }) (wrote (record { room = out.old; at = at }) (bytes_words list.now)) }
+fn bytes_words(desk: &mut Desk<'_>, list: &[u8])
+    ensures { Writes desk.old desk.new (bytes_words list.now) }
 {
-    let at = one_word(out, at, list, 0);
-    let at = one_word(out, at, list, 1);
-    let at = one_word(out, at, list, 2);
-    let at = one_word(out, at, list, 3);
-    let at = one_word(out, at, list, 4);
-    let at = one_word(out, at, list, 5);
-    let at = one_word(out, at, list, 6);
-    let at = one_word(out, at, list, 7);
-    let at = one_word(out, at, list, 8);
-    let at = one_word(out, at, list, 9);
-    let at = one_word(out, at, list, 10);
-    let at = one_word(out, at, list, 11);
-    let at = one_word(out, at, list, 12);
-    let at = one_word(out, at, list, 13);
-    let at = one_word(out, at, list, 14);
-    let at = one_word(out, at, list, 15);
-    say_if(out, at, 16 < list.len(), b" ..")
+    if 16 < list.len() {
+        listed(desk, &list[..16]);
+        desk.say(b" ..");
+    } else {
+        listed(desk, list);
+    }
 }
 
 // ' 3Ch FFh came'
-fn came_words(out: &mut [u8], at: usize, on: bool, given: &[u8]) -> usize
-    ensures { ◌≡◌ {A = Desk} (record { room = out.new; at = result }) (wrote (record { room = out.old; at = at }) (when on (came_words given.now))) }
+fn came_words(desk: &mut Desk<'_>, given: &[u8])
+    ensures { Writes desk.old desk.new (came_words given.now) }
 {
-    if on {
-        let at = say_if(out, at, given.len() == 0, b" no byte");
-        let at = bytes_words(out, at, given);
-        say(out, at, b" came")
-    } else {
-        at
-    }
+    desk.say_if(given.is_empty(), b" no byte");
+    bytes_words(desk, given);
+    desk.say(b" came");
 }
 
 // ' gave 3Ch'
-fn gave_words(out: &mut [u8], at: usize, on: bool, b: u8) -> usize
-    ensures { ◌≡◌ {A = Desk} (record { room = out.new; at = result }) (wrote (record { room = out.old; at = at }) (when on (gave_words b))) }
+fn gave_words(desk: &mut Desk<'_>, b: u8)
+    ensures { Writes desk.old desk.new (gave_words b) }
 {
-    if on {
-        let at = say(out, at, b" gave ");
-        byte(out, at, b)
-    } else {
-        at
-    }
+    desk.say(b" gave ");
+    desk.byte(b);
 }
 
 // ' was refused 4: ..'
-fn refused_last(out: &mut [u8], at: usize, on: bool, n: u8) -> usize
-    ensures { ◌≡◌ {A = Desk} (record { room = out.new; at = result }) (wrote (record { room = out.old; at = at }) (when on (refused_last n))) }
+fn refused_last(desk: &mut Desk<'_>, n: u8)
+    ensures { Writes desk.old desk.new (refused_last n) }
 {
-    if on {
-        let at = say(out, at, b" was ");
-        refused(out, at, n)
-    } else {
-        at
+    desk.say(b" was ");
+    refused(desk, n);
+}
+
+fn answer_words(desk: &mut Desk<'_>, first: u8, second: u8)
+    ensures { Writes desk.old desk.new (answer_words first second) }
+{
+    match first {
+        0 => desk.say(b" was accepted"),
+        1 => gave_words(desk, second),
+        _ => refused_last(desk, second),
     }
 }
 
 // ' event 12 was accepted': the last.
-fn last_words(out: &mut [u8], at: usize, on: bool, s: Since, last: usize) -> usize
-    ensures { ◌≡◌ {A = Desk} (record { room = out.new; at = result }) (wrote (record { room = out.old; at = at }) (when on (last_words s last))) }
+fn last_words(desk: &mut Desk<'_>, s: Since, last: usize)
+    ensures { Writes desk.old desk.new (last_words s last) }
+{
+    desk.say(b" event ");
+    desk.number(last);
+    answer_words(desk, s.first, s.second);
+}
+
+#[tactic(auto, using(nib_words::proofs::Desks::none))]
+fn last_if(desk: &mut Desk<'_>, on: bool, s: Since, last: usize)
+    ensures { Writes desk.old desk.new (when on (last_words s last)) }
 {
     if on {
-        let at = say(out, at, b" event ");
-        let at = number(out, at, last);
-        let at = say_if(out, at, s.first == 0, b" was accepted");
-        let at = gave_words(out, at, s.first == 1, s.second);
-        refused_last(out, at, 1 < s.first, s.second)
-    } else {
-        at
+        last_words(desk, s, last);
     }
 }
 
 // `ok` failed.
-pub fn ok_words(out: &mut [u8], at: usize, s: Since) -> usize
-    ensures { ◌≡◌ {A = Desk} (record { room = out.new; at = result }) (wrote (record { room = out.old; at = at }) (ok_words s)) }
+pub fn ok_words(desk: &mut Desk<'_>, s: Since)
+    ensures { Writes desk.old desk.new (ok_words s) }
 {
-    let at = say(out, at, b"expected ok;");
-    event_words(out, at, true, s)
+    desk.say(b"expected ok;");
+    event_words(desk, s);
 }
 
 // `!` and a number failed; `last` is the number of the last event.
-pub fn refusal_words(out: &mut [u8], at: usize, s: Since, last: usize, n: u8) -> usize
-    ensures { ◌≡◌ {A = Desk} (record { room = out.new; at = result }) (wrote (record { room = out.old; at = at }) (refusal_words s last n)) }
+pub fn refusal_words(desk: &mut Desk<'_>, s: Since, last: usize, n: u8)
+    ensures { Writes desk.old desk.new (refusal_words s last n) }
 {
-    let at = say(out, at, b"expected refusal ");
-    let at = number(out, at, n as usize);
-    let at = say_if(out, at, s.spoiled, b" of the last event alone");
-    let at = put(out, at, b';');
-    let at = say_if(out, at, !s.any, b" no event came");
-    let at = event_words(out, at, s.spoiled, s);
-    last_words(out, at, s.any & !s.spoiled, s, last)
+    desk.say(b"expected refusal ");
+    desk.number(n as usize);
+    desk.say_if(s.spoiled, b" of the last event alone");
+    desk.put(b';');
+    desk.say_if(!s.any, b" no event came");
+    event_if(desk, s.spoiled, s);
+    last_if(desk, s.any & !s.spoiled, s, last);
+}
+
+fn instead_words(desk: &mut Desk<'_>, s: Since, given: &[u8])
+    ensures { Writes desk.old desk.new (instead_words s given.now) }
+{
+    if s.spoiled || is_refused(s.first) {
+        event_words(desk, s);
+    } else {
+        came_words(desk, given);
+    }
 }
 
 // `=` and bytes failed.
-pub fn bytes_failed(out: &mut [u8], at: usize, s: Since, given: &[u8], wanted: &[u8]) -> usize
-    ensures { ◌≡◌ {A = Desk} (record { room = out.new; at = result }) (wrote (record { room = out.old; at = at }) (bytes_failed s given.now wanted.now)) }
+pub fn bytes_failed(desk: &mut Desk<'_>, s: Since, given: &[u8], wanted: &[u8])
+    ensures { Writes desk.old desk.new (bytes_failed s given.now wanted.now) }
 {
-    let spoiled = s.spoiled | (1 < s.first);
-    let at = say(out, at, b"expected bytes");
-    let at = bytes_words(out, at, wanted);
-    let at = put(out, at, b';');
-    let at = came_words(out, at, !spoiled, given);
-    event_words(out, at, spoiled, s)
+    desk.say(b"expected bytes");
+    bytes_words(desk, wanted);
+    desk.put(b';');
+    instead_words(desk, s, given);
 }
 
 // '12 events, 5 expectations'
-pub fn script_words(out: &mut [u8], at: usize, events: usize, expected: usize) -> usize
-    ensures { ◌≡◌ {A = Desk} (record { room = out.new; at = result }) (wrote (record { room = out.old; at = at }) (script_words events expected)) }
+pub fn script_words(desk: &mut Desk<'_>, events: usize, expected: usize)
+    ensures { Writes desk.old desk.new (script_words events expected) }
 {
-    let at = number(out, at, events);
-    let at = say(out, at, b" event");
-    let at = put_if(out, at, !(events == 1), b's');
-    let at = say(out, at, b", ");
-    let at = number(out, at, expected);
-    let at = say(out, at, b" expectation");
-    put_if(out, at, !(expected == 1), b's')
+    desk.number(events);
+    desk.say(b" event");
+    desk.put_if(events != 1, b's');
+    desk.say(b", ");
+    desk.number(expected);
+    desk.say(b" expectation");
+    desk.put_if(expected != 1, b's');
 }
 
 // '2 of 5 expectations failed; nothing was stored'
-pub fn failed_words(out: &mut [u8], at: usize, failed: usize, expected: usize) -> usize
-    ensures { ◌≡◌ {A = Desk} (record { room = out.new; at = result }) (wrote (record { room = out.old; at = at }) (failed_words failed expected)) }
+pub fn failed_words(desk: &mut Desk<'_>, failed: usize, expected: usize)
+    ensures { Writes desk.old desk.new (failed_words failed expected) }
 {
-    let at = number(out, at, failed);
-    let at = say(out, at, b" of ");
-    let at = number(out, at, expected);
-    say(out, at, b" expectations failed; nothing was stored")
+    desk.number(failed);
+    desk.say(b" of ");
+    desk.number(expected);
+    desk.say(b" expectations failed; nothing was stored");
 }

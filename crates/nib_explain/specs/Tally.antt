@@ -1,15 +1,14 @@
 -- The events of a trace, counted by their answers: number 0 is how many were accepted, number n how many rule n refused.
-use Rattle.std.specs.Prelude.{ℕ, List, eqb, ltb, length, set, get_or}
-use Rattle.target.specs.Pick.{pick}
+use Rattle.std.specs.Prelude.{ℕ, List, eqb, ltb, length, set, get_or, if◌then◌else◌}
 use Rattle.nib_text.specs.Reading.{up}
 
 -- a number of the counts, and 0 where there is none
-unfoldable pub number_at : List ℕ → ℕ → ℕ
+abbrev pub number_at : List ℕ → ℕ → ℕ
 number_at counts i = get_or counts i 0
 
-unfoldable pub bumped : List ℕ → ℕ → List ℕ
-bumped counts i = pick (ltb i (length counts)) (set counts i (up (get_or counts i 0))) counts
+abbrev pub bumped : List ℕ → ℕ → List ℕ
+bumped counts i = if ltb i (length counts) then set counts i (up (get_or counts i 0)) else counts
 
 -- a reply whose first byte is 2 is a refusal, by the rule that the second byte numbers
-unfoldable pub tallied : List ℕ → ℕ → ℕ → List ℕ
-tallied counts first second = bumped counts (pick (eqb first 2) second 0)
+abbrev pub tallied : List ℕ → ℕ → ℕ → List ℕ
+tallied counts first second = bumped counts (if eqb first 2 then second else 0)

@@ -3,7 +3,6 @@ ghost use Rattle.std.specs.Prelude.{◌≡◌};
 ghost use Rattle.nib_explain.specs.Tally.{bumped, tallied, number_at};
 
 use nib_text::reading::up;
-use target::picks::pick_number;
 
 // Room for every rule that an event meets.
 pub type Tally = [usize; 17];
@@ -20,13 +19,13 @@ fn bump(counts: &mut [usize], i: usize)
 pub fn tally(counts: &mut [usize], first: u8, second: u8)
     ensures { counts.new ≡ tallied counts.old first second }
 {
-    let slot = pick_number(first == 2, second as usize, 0);
-    bump(counts, slot)
+    let slot = if first == 2 { second as usize } else { 0 };
+    bump(counts, slot);
 }
 
 // A number of the counts, and 0 where there is none.
 pub fn number_at(counts: &[usize], i: usize) -> usize
     ensures { result ≡ number_at counts.now i }
 {
-    if i < counts.len() { counts[i] } else { 0 }
+    counts.get(i).copied().unwrap_or(0)
 }

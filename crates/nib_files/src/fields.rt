@@ -1,65 +1,42 @@
 // The fields of a parameter page that are outside their limits, in words.
-use nib_print::pen::{Paper, Pen, byte, text};
-use nib_print::say::with_number;
+use nib_print::pen::Pen;
 use page::fields::{
     address_cycles, bit_of, blocks_a_lun, data_bytes, features, lun_count, pages_a_block,
     programs_a_page, spare_bytes,
 };
 
-fn within(out: &mut Paper, p: Pen, words: &[u8], n: usize, low: usize, high: usize) -> Pen {
-    if (low <= n) & (n <= high) {
-        return p;
+fn within(pen: &mut Pen, words: &[u8], n: usize, low: usize, high: usize) {
+    if (low..=high).contains(&n) {
+        return;
     }
-    let p = text(out, p, b"; ");
-    let p = text(out, p, words);
-    let p = with_number(out, p, b": ", n);
-    let p = with_number(out, p, b", and ", low);
-    let p = with_number(out, p, b" to ", high);
-    text(out, p, b" are taken")
-}
-
-fn told_if(out: &mut Paper, p: Pen, wrong: bool, words: &[u8]) -> Pen {
-    if wrong { text(out, p, words) } else { p }
-}
-
-fn lun_words(out: &mut Paper, p: Pen, page: &[u8]) -> Pen {
-    let n = lun_count(page);
-    let p = within(out, p, b"LUNs", n, 1, 4);
-    if (1 < n) & !bit_of(features(page), 1) {
-        let p = with_number(out, p, b"; LUNs: ", n);
-        return text(out, p, b", and feature bit 1, more than one LUN, is clear");
-    }
-    p
-}
-
-fn cycle_words(out: &mut Paper, p: Pen, page: &[u8]) -> Pen {
-    let n = address_cycles(page);
-    if n == 0x23 {
-        return p;
-    }
-    let p = text(out, p, b"; address cycles: ");
-    let p = byte(out, p, n);
-    text(
-        out,
-        p,
-        b", and 23h, two of the column and three of the row, is taken",
-    )
+    pen.text(b"; ");
+    pen.text(words);
+    pen.with_number(b": ", n);
+    pen.with_number(b", and ", low);
+    pen.with_number(b" to ", high);
+    pen.text(b" are taken");
 }
 
 // Each field that power-on refuses with 23, after a semicolon.
-pub fn outside(out: &mut Paper, p: Pen, page: &[u8]) -> Pen {
-    let p = within(out, p, b"data bytes", data_bytes(page), 16, 16384);
-    let p = within(out, p, b"spare bytes", spare_bytes(page), 0, 2048);
-    let p = within(out, p, b"pages a block", pages_a_block(page), 1, 256);
-    let p = within(out, p, b"blocks a LUN", blocks_a_lun(page), 1, 4096);
-    let p = within(out, p, b"programs a page", programs_a_page(page), 1, 8);
-    let bus = bit_of(features(page), 0);
-    let p = told_if(
-        out,
-        p,
-        bus,
-        b"; features: bit 0, a 16-bit bus, is set, and 8 bits are taken",
-    );
-    let p = lun_words(out, p, page);
-    cycle_words(out, p, page)
+pub fn outside(pen: &mut Pen, page: &[u8]) {
+    within(pen, b"data bytes", data_bytes(page), 16, 16384);
+    within(pen, b"spare bytes", spare_bytes(page), 0, 2048);
+    within(pen, b"pages a block", pages_a_block(page), 1, 256);
+    within(pen, b"blocks a LUN", blocks_a_lun(page), 1, 4096);
+    within(pen, b"programs a page", programs_a_page(page), 1, 8);
+    if bit_of(features(page), 0) {
+        pen.text(b"; features: bit 0, a 16-bit bus, is set, and 8 bits are taken");
+    }
+    let luns = lun_count(page);
+    within(pen, b"LUNs", luns, 1, 4);
+    if 1 < luns && !bit_of(features(page), 1) {
+        pen.with_number(b"; LUNs: ", luns);
+        pen.text(b", and feature bit 1, more than one LUN, is clear");
+    }
+    let cycles = address_cycles(page);
+    if cycles != 0x23 {
+        pen.text(b"; address cycles: ");
+        pen.byte(cycles);
+        pen.text(b", and 23h, two of the column and three of the row, is taken");
+    }
 }

@@ -1,22 +1,16 @@
-// A part: its buffers, and the folder that holds it.
+// A part: its page and its buffers, and the folder that holds it.
 use crate::fields::outside;
-use crate::files::{
-    complain, create, join, one_more, open, read_full, read_whole, remove, rename, text_of,
-    write_beside,
-};
-use nib_print::pen::{Paper, Pen, To, begin, count, end_line, failed, flush, text};
-use nib_print::say::{power_sentence, with_number};
-use nib_sizes::{Known, Lengths, Plan, known_part, plan_of};
-use power::{PowerRefusal, Powered, power_on};
-use slices::copy;
+use crate::files::{create, join, read_front, read_whole, remove, rename, text_of, write_beside};
+use nib_print::pen::{Pen, To, Told, complain_of, failed, front, front_mut};
+use nib_sizes::{Lengths, Unplanned, known_part, plan_of};
+use power::{NotPowered, PowerRefusal, power_on};
 use std::fs;
-use std::fs::File;
-use std::io::{Error, ErrorKind};
+use std::io::ErrorKind;
 use target::{Geometry, Target};
 use trace::run;
 
-// Room for every part that `folder` plans: an array of at most 4 MiB; four registers of at most 16,384 + 2,048 bytes; a count
-// for each page, of at least 16 bytes; a flag for each of at most 4 times 4,096 blocks.
+// Room for every part that `Buffers::plan` takes: an array of at most 4 MiB; four registers of at most 16,384 + 2,048 bytes; a
+// count for each page, of at least 16 bytes; a flag for each of at most 4 times 4,096 blocks.
 pub type Array = [u8; 4194304];
 
 pub type Registers = [u8; 73728];
@@ -40,10 +34,6 @@ const T1: [u8; 256] = [
     0, 0, 207, 16,
 ];
 
-pub fn t1() -> Page {
-    T1
-}
-
 // T1's page becomes T2's: 3 pages, 5 blocks, and their CRC.
 pub fn to_t2(page: &mut Page) {
     page[92] = 3;
@@ -63,508 +53,258 @@ pub fn to_w(page: &mut Page) {
 // T1's device ID.
 pub const T1_ID: u8 = 0x68;
 
-// What is to be run: the lengths of a part's buffers, and its device ID.
-#[derive(Clone, Copy)]
-pub struct Part {
-    pub good: bool,
-    pub device: u8,
-    pub lengths: Lengths,
-}
-
-pub fn no_part() -> Part {
-    let lengths = Lengths {
-        array: 0,
-        registers: 0,
-        counts: 0,
-        flags: 0,
-    };
-    Part {
-        good: false,
-        device: 0,
-        lengths,
-    }
-}
-
-fn is_field(why: PowerRefusal) -> bool {
-    match why {
-        PowerRefusal::PageLength => false,
-        PowerRefusal::Signature => false,
-        PowerRefusal::Crc => false,
-        PowerRefusal::Field => true,
-        PowerRefusal::BufferLength => false,
-        PowerRefusal::Content => false,
-    }
-}
-
-fn fields_if(out: &mut Paper, p: Pen, field: bool, page: &[u8]) -> Pen {
-    if field { outside(out, p, page) } else { p }
-}
-
 // The line that tells of a refused power-on; where a field is outside its limits, it names the field.
-fn refuse_page(rt: HostRuntime, path: &[u8], why: PowerRefusal, page: &[u8]) {
-    let mut out = [0u8; 65536];
-    let p = begin(rt, To::Errors);
-    let p = text(&mut out, p, b"nib: ");
-    let p = text(&mut out, p, path);
-    let p = text(&mut out, p, b": power-on ");
-    let p = power_sentence(&mut out, p, why);
-    let p = fields_if(&mut out, p, is_field(why), page);
-    let p = end_line(&mut out, p);
-    flush(&out, p);
-}
-
-pub fn refuse(rt: HostRuntime, path: &[u8], why: PowerRefusal) {
-    refuse_page(rt, path, why, b"");
-}
-
-fn refuse_large(rt: HostRuntime, path: &[u8], l: Lengths) {
-    complain(
-        rt,
-        path,
-        b": an array of ",
-        l.array,
-        b" bytes is more than the 4194304 that nib holds; python3 -m nibtoggle has no such limit\n",
-    );
-}
-
-// The part that a page describes; where nib can't hold it, a line that names `path` says why.
-pub fn planned(rt: HostRuntime, path: &[u8], page: &[u8], device: u8) -> Part {
-    let plan = plan_of(page);
-    match plan {
-        Plan::Sizes(lengths) => Part {
-            good: true,
-            device,
-            lengths,
-        },
-        Plan::Refused(why) => {
-            refuse_page(rt, path, why, page);
-            no_part()
-        }
-        Plan::TooLarge(l) => {
-            refuse_large(rt, path, l);
-            no_part()
-        }
+fn refuse_page(rt: HostRuntime, path: &[u8], why: PowerRefusal, page: &[u8]) -> Told {
+    let mut pen = Pen::new(rt, To::Errors);
+    pen.text(b"nib: ");
+    pen.text(path);
+    pen.text(b": power-on ");
+    pen.power_sentence(why);
+    if matches!(why, PowerRefusal::Field) {
+        outside(&mut pen, page);
     }
+    pen.end_line();
+    pen.flush();
+    Told
 }
 
-fn read_buffers(
-    rt: HostRuntime,
-    dir: &[u8],
-    l: Lengths,
-    array: &mut Array,
-    counts: &mut Counts,
-    flags: &mut Flags,
-) -> bool {
-    read_whole(rt, dir, b"array", array, l.array)
-        && read_whole(rt, dir, b"counts", counts, l.counts)
-        && read_whole(rt, dir, b"flags", flags, l.flags)
+pub fn refuse(rt: HostRuntime, path: &[u8], why: PowerRefusal) -> Told {
+    refuse_page(rt, path, why, b"")
 }
 
-fn read_id(rt: HostRuntime, dir: &[u8]) -> Part {
-    let mut id = [0u8; 1];
-    let none = no_part();
-    let good = read_whole(rt, dir, b"id", &mut id, 1);
-    Part {
-        good,
-        device: id[0],
-        ..none
-    }
+// The lengths of the part that a page describes; where nib can't hold it, a line that names `path` says why.
+fn planned(rt: HostRuntime, path: &[u8], page: &[u8]) -> Result<Lengths, Told> {
+    plan_of(page).map_err(|why| match why {
+        Unplanned::Refused(why) => refuse_page(rt, path, why, page),
+        Unplanned::TooLarge(l) => complain_of(
+            rt,
+            path,
+            b": an array of ",
+            l.array,
+            b" bytes is more than the 4194304 that nib holds; python3 -m nibtoggle has no such limit\n",
+        ),
+    })
 }
 
 // The bytes are signed, and have the CRC that they say.
 fn is_whole(bytes: &[u8]) -> bool {
-    let plan = plan_of(bytes);
-    match plan {
-        Plan::Sizes(_) => true,
-        Plan::Refused(why) => is_field(why),
-        Plan::TooLarge(_) => true,
+    match plan_of(bytes) {
+        Err(Unplanned::Refused(why)) => matches!(why, PowerRefusal::Field),
+        _ => true,
     }
 }
 
-// A part of a slice, and an empty one where it has none.
-fn stretch(s: &[u8], from: usize, to: usize) -> &[u8] {
-    if from <= to {
-        if to <= s.len() {
-            return &s[from..to];
+// The page among the bytes of a file: all 256, or of the three copies of an answer to ECh the first that is whole, and the first
+// of all where none is.
+fn page_among(bytes: &[u8]) -> Option<&[u8]> {
+    match bytes.len() {
+        256 => Some(bytes),
+        768 => {
+            for copy in bytes.chunks(256) {
+                if is_whole(copy) {
+                    return Some(copy);
+                }
+            }
+            Some(front(bytes, 256))
+        }
+        _ => None,
+    }
+}
+
+// The page of a file, 256 bytes or the three copies of an answer to ECh. Where there is none, a line says why.
+pub fn page_in(rt: HostRuntime, path: &[u8], page: &mut Page) -> Result<(), Told> {
+    // one byte more than three copies have
+    let mut room = [0u8; 769];
+    let bytes = read_front(rt, path, &mut room)?;
+    let Some(these) = page_among(bytes) else {
+        return Err(refuse(rt, path, PowerRefusal::PageLength));
+    };
+    for (to, from) in page.iter_mut().zip(these) {
+        *to = *from;
+    }
+    Ok(())
+}
+
+// The sizes of no part.
+pub const NO_SIZES: Geometry = Geometry {
+    bytes: 0,
+    spare: 0,
+    pages: 0,
+    blocks: 0,
+    luns: 0,
+    programs: 0,
+};
+
+// The sizes of a folder's part, from its page, for who only speaks of it: it may be larger than nib holds. Where there are none,
+// a line says why.
+pub fn geometry_in(rt: HostRuntime, dir: &[u8]) -> Result<Geometry, Told> {
+    let path = join(dir, b"page");
+    let mut page = [0u8; 256];
+    page_in(rt, path.as_slice(), &mut page)?;
+    known_part(&page).map_err(|why| refuse_page(rt, path.as_slice(), why, &page))
+}
+
+// A part in memory: its page, its device ID, and its buffers, of each of which the part takes a front. With no heap there is
+// one room for every part.
+#[derive(Drop)]
+pub struct Buffers<'a> {
+    pub page: Page,
+    pub device: u8,
+    pub lengths: Lengths,
+    pub array: &'a mut Array,
+    pub registers: Registers,
+    pub counts: Counts,
+    pub flags: Flags,
+}
+
+impl<'a> Buffers<'a> {
+    // Room that no part takes yet, with T1's page: registers, counts and flags of 0. The array is lent: it is half of the stack that
+    // there is, and must not be copied on its way.
+    pub fn new(array: &'a mut Array) -> Buffers<'a> {
+        Buffers {
+            page: T1,
+            device: 0,
+            lengths: Lengths {
+                array: 0,
+                registers: 0,
+                counts: 0,
+                flags: 0,
+            },
+            array,
+            registers: [0; 73728],
+            counts: [0; 262144],
+            flags: [0; 16384],
         }
     }
-    &s[..0]
-}
 
-fn copy_whole(dst: &mut [u8], src: &[u8]) {
-    if dst.len() == src.len() {
-        copy(dst, src);
+    // The part that the page describes is to be run or made; where nib can't hold it, a line that names `path` says why. A page
+    // does not say its part's device ID.
+    pub fn plan(&mut self, rt: HostRuntime, path: &[u8], device: u8) -> Result<(), Told> {
+        self.lengths = planned(rt, path, &self.page)?;
+        self.device = device;
+        Ok(())
     }
-}
 
-// Bytes of the answer that are a whole page become the page. Whether they are one.
-fn take_whole(bytes: &[u8], from: usize, to: usize, page: &mut [u8]) -> bool {
-    let these = stretch(bytes, from, to);
-    if is_whole(these) {
-        copy_whole(page, these);
-        return true;
+    // The folder's files into the buffers.
+    pub fn load(&mut self, rt: HostRuntime, dir: &[u8]) -> Result<(), Told> {
+        let path = join(dir, b"page");
+        page_in(rt, path.as_slice(), &mut self.page)?;
+        self.plan(rt, path.as_slice(), 0)?;
+        let mut id = [0u8; 1];
+        read_whole(rt, dir, b"id", &mut id, 1)?;
+        self.device = id[0];
+        let l = self.lengths;
+        read_whole(rt, dir, b"array", &mut *self.array, l.array)?;
+        read_whole(rt, dir, b"counts", &mut self.counts, l.counts)?;
+        read_whole(rt, dir, b"flags", &mut self.flags, l.flags)
     }
-    false
-}
 
-// An answer to ECh has three copies: the first that is whole, and the first of all where none is.
-fn take_copy(bytes: &[u8], page: &mut [u8]) {
-    if take_whole(bytes, 0, 256, page) {
-        return;
+    // Array, counts and registers: all three are written beside the old ones before the first of them is renamed.
+    fn store_whole(&self, rt: HostRuntime, dir: &[u8]) -> Result<(), Told> {
+        let l = self.lengths;
+        write_beside(rt, dir, b"array.new", front(&*self.array, l.array))?;
+        write_beside(rt, dir, b"counts.new", front(&self.counts, l.counts))?;
+        write_beside(
+            rt,
+            dir,
+            b"registers.new",
+            front(&self.registers, l.registers),
+        )?;
+        rename(rt, dir, b"array.new", b"array")?;
+        rename(rt, dir, b"counts.new", b"counts")?;
+        rename(rt, dir, b"registers.new", b"registers")
     }
-    if take_whole(bytes, 256, 512, page) {
-        return;
-    }
-    if take_whole(bytes, 512, 768, page) {
-        return;
-    }
-    let first = stretch(bytes, 0, 256);
-    copy_whole(page, first);
-}
 
-// One byte more than three copies have.
-pub type Answer = [u8; 769];
-
-// Whether what was read, `got` bytes, is a page or three copies of one: it is then the page.
-fn take_page(bytes: &[u8], got: usize, page: &mut [u8]) -> bool {
-    if got == 768 {
-        take_copy(bytes, page);
-        return true;
-    }
-    if got == 256 {
-        let these = stretch(bytes, 0, 256);
-        copy_whole(page, these);
-        return true;
-    }
-    false
-}
-
-fn taken(bytes: &Answer, got: usize, page: &mut Page) -> bool {
-    take_page(bytes, got, page)
-}
-
-fn page_from(rt: HostRuntime, opened: File, path: &[u8], page: &mut Page) -> Result<bool, Error> {
-    let mut file = opened;
-    let mut bytes = [0u8; 769];
-    let got = read_full(&mut file, &mut bytes);
-    one_more(&mut file)?;
-    if !taken(&bytes, got, page) {
-        refuse(rt, path, PowerRefusal::PageLength);
-        return Ok(false);
-    }
-    Ok(true)
-}
-
-fn page_read(rt: HostRuntime, path: &[u8], page: &mut Page) -> Result<bool, Error> {
-    let file = open(rt, path)?;
-    page_from(rt, file, path, page)
-}
-
-// The page of a file, 256 bytes or the three copies of an answer to ECh. Whether there is one; if not, a line says why.
-pub fn page_in(rt: HostRuntime, path: &[u8], page: &mut Page) -> bool {
-    match page_read(rt, path, page) {
-        Ok(good) => good,
-        Err(e) => {
-            failed(rt, path, &e);
-            false
+    pub fn store(&self, rt: HostRuntime, dir: &[u8]) {
+        if self.store_whole(rt, dir).is_err() {
+            remove(rt, dir, b"array.new");
+            remove(rt, dir, b"counts.new");
+            remove(rt, dir, b"registers.new");
         }
     }
+
+    // The five files of a new folder, each by its name. The error says how many were made before the one that failed.
+    fn create_files(&self, rt: HostRuntime, dir: &[u8]) -> Result<(), usize> {
+        let l = self.lengths;
+        create(rt, dir, b"page", &self.page).map_err(|_| 0usize)?;
+        create(rt, dir, b"id", &[self.device]).map_err(|_| 1usize)?;
+        create(rt, dir, b"array", front(&*self.array, l.array)).map_err(|_| 2usize)?;
+        create(rt, dir, b"counts", front(&self.counts, l.counts)).map_err(|_| 3usize)?;
+        create(rt, dir, b"flags", front(&self.flags, l.flags)).map_err(|_| 4usize)
+    }
+
+    // A new part folder, of buffers that are still as `new` makes them.
+    pub fn make(&self, rt: HostRuntime, dir: &[u8]) -> Result<(), Told> {
+        let is_new = make_folder(rt, dir)?;
+        if let Err(made) = self.create_files(rt, dir) {
+            // what was made before the file that failed is taken away again
+            let names: [&[u8]; 4] = [b"page", b"id", b"array", b"counts"];
+            for name in names.iter().take(made) {
+                remove(rt, dir, name);
+            }
+            if is_new {
+                remove_folder(rt, dir);
+            }
+            return Err(Told);
+        }
+        let l = self.lengths;
+        let mut pen = Pen::new(rt, To::Output);
+        pen.text(dir);
+        pen.with_number(b": page 256 bytes, id 1, array ", l.array);
+        pen.with_number(b", counts ", l.counts);
+        pen.with_number(b", flags ", l.flags);
+        pen.end_line();
+        pen.flush();
+        Ok(())
+    }
+
+    // Power-on from the buffers, of which the part's lengths are lent.
+    pub fn power(&mut self) -> Result<Target, NotPowered> {
+        let l = self.lengths;
+        power_on(
+            &self.page,
+            self.device,
+            front(&*self.array, l.array),
+            front_mut(&mut self.registers, l.registers),
+            front(&self.counts, l.counts),
+            front(&self.flags, l.flags),
+        )
+    }
+
+    // A trace on those buffers.
+    pub fn run(&mut self, t: Target, records: &[u8], room: &mut [u8]) -> Target {
+        let l = self.lengths;
+        let array = &mut *self.array;
+        let ran = run(
+            t,
+            records,
+            room,
+            &self.page,
+            front_mut(array, l.array),
+            front_mut(&mut self.registers, l.registers),
+            front_mut(&mut self.counts, l.counts),
+            front(&self.flags, l.flags),
+        );
+        // a room for two bytes a record is never too short, and without a run the target is what it was
+        ran.unwrap_or(t)
+    }
 }
 
-fn folder_made(rt: HostRuntime, dir: &[u8]) -> Result<(), Error> {
-    fs::create_dir(&rt, text_of(dir)?)
+// Whether the folder was made now; it may stand already.
+fn make_folder(rt: HostRuntime, dir: &[u8]) -> Result<bool, Told> {
+    let made = match text_of(dir) {
+        Ok(text) => fs::create_dir(&rt, text),
+        Err(e) => Err(e),
+    };
+    match made {
+        Ok(()) => Ok(true),
+        Err(e) if e.kind() == ErrorKind::AlreadyExists => Ok(false),
+        Err(e) => Err(failed(rt, dir, &e)),
+    }
 }
 
 fn remove_folder(rt: HostRuntime, dir: &[u8]) {
     if let Ok(text) = text_of(dir) {
         let _ = fs::remove_dir(&rt, text);
     }
-}
-
-// The page of a file, and the part that it describes.
-pub fn read_page(rt: HostRuntime, path: &[u8], page: &mut Page) -> Part {
-    if page_in(rt, path, page) {
-        planned(rt, path, page, 0)
-    } else {
-        no_part()
-    }
-}
-
-fn page_of(rt: HostRuntime, dir: &[u8], page: &mut Page) -> Part {
-    let mut path = [0u8; 4096];
-    let n = join(&mut path, dir, b"page");
-    read_page(rt, &path[..n], page)
-}
-
-// A part's sizes alone, for who only speaks of it: it may be larger than nib holds. Not good where there is none.
-#[derive(Clone, Copy)]
-pub struct Shape {
-    pub good: bool,
-    pub geometry: Geometry,
-}
-
-pub fn no_shape() -> Shape {
-    let geometry = Geometry {
-        bytes: 0,
-        spare: 0,
-        pages: 0,
-        blocks: 0,
-        luns: 0,
-        programs: 0,
-    };
-    Shape {
-        good: false,
-        geometry,
-    }
-}
-
-fn shape_in(rt: HostRuntime, path: &[u8], page: &[u8]) -> Shape {
-    let k = known_part(page);
-    match k {
-        Known::Part(geometry) => Shape {
-            good: true,
-            geometry,
-        },
-        Known::Refused(why) => {
-            refuse_page(rt, path, why, page);
-            no_shape()
-        }
-    }
-}
-
-fn read_shape(rt: HostRuntime, path: &[u8], page: &mut Page) -> Shape {
-    if page_in(rt, path, page) {
-        shape_in(rt, path, page)
-    } else {
-        no_shape()
-    }
-}
-
-// The sizes of a folder's part, from its page; where there are none, a line says why.
-pub fn shape_of(rt: HostRuntime, dir: &[u8]) -> Shape {
-    let mut path = [0u8; 4096];
-    let mut page = [0u8; 256];
-    let n = join(&mut path, dir, b"page");
-    read_shape(rt, &path[..n], &mut page)
-}
-
-// The folder's files into the buffers.
-pub fn load(
-    rt: HostRuntime,
-    dir: &[u8],
-    page: &mut Page,
-    array: &mut Array,
-    counts: &mut Counts,
-    flags: &mut Flags,
-) -> Part {
-    let part = page_of(rt, dir, page);
-    if !part.good {
-        return no_part();
-    }
-    let id = read_id(rt, dir);
-    if !id.good {
-        return no_part();
-    }
-    let l = part.lengths;
-    let good = read_buffers(rt, dir, l, array, counts, flags);
-    Part {
-        good,
-        device: id.device,
-        ..part
-    }
-}
-
-// Array, counts and registers: all three are written beside the old ones before the first of them is renamed.
-fn written(
-    rt: HostRuntime,
-    dir: &[u8],
-    l: Lengths,
-    array: &Array,
-    registers: &Registers,
-    counts: &Counts,
-) -> bool {
-    write_beside(rt, dir, b"array.new", array, l.array)
-        && write_beside(rt, dir, b"counts.new", counts, l.counts)
-        && write_beside(rt, dir, b"registers.new", registers, l.registers)
-}
-
-fn renamed(rt: HostRuntime, dir: &[u8]) -> bool {
-    rename(rt, dir, b"array.new", b"array")
-        && rename(rt, dir, b"counts.new", b"counts")
-        && rename(rt, dir, b"registers.new", b"registers")
-}
-
-fn remove_new(rt: HostRuntime, dir: &[u8]) {
-    remove(rt, dir, b"array.new");
-    remove(rt, dir, b"counts.new");
-    remove(rt, dir, b"registers.new");
-}
-
-pub fn store(
-    rt: HostRuntime,
-    dir: &[u8],
-    l: Lengths,
-    array: &Array,
-    registers: &Registers,
-    counts: &Counts,
-) {
-    let good = written(rt, dir, l, array, registers, counts);
-    if !good {
-        remove_new(rt, dir);
-        return;
-    }
-    if !renamed(rt, dir) {
-        remove_new(rt, dir);
-    }
-}
-
-// How many of the five files were made, in this order.
-fn made(
-    rt: HostRuntime,
-    dir: &[u8],
-    page: &Page,
-    device: u8,
-    l: Lengths,
-    array: &Array,
-    counts: &Counts,
-    flags: &Flags,
-) -> usize {
-    let id = [device];
-    if !create(rt, dir, b"page", page, 256) {
-        return 0;
-    }
-    if !create(rt, dir, b"id", &id, 1) {
-        return 1;
-    }
-    if !create(rt, dir, b"array", array, l.array) {
-        return 2;
-    }
-    if !create(rt, dir, b"counts", counts, l.counts) {
-        return 3;
-    }
-    if !create(rt, dir, b"flags", flags, l.flags) {
-        return 4;
-    }
-    5
-}
-
-// Takes away what a call that failed has made.
-fn undo(rt: HostRuntime, dir: &[u8], made: usize) {
-    if 0 < made {
-        remove(rt, dir, b"page");
-    }
-    if 1 < made {
-        remove(rt, dir, b"id");
-    }
-    if 2 < made {
-        remove(rt, dir, b"array");
-    }
-    if 3 < made {
-        remove(rt, dir, b"counts");
-    }
-}
-
-fn tell_made(rt: HostRuntime, out: &mut Paper, dir: &[u8], l: Lengths) {
-    let p = begin(rt, To::Output);
-    let p = text(out, p, dir);
-    let p = with_number(out, p, b": page 256 bytes, id 1, array ", l.array);
-    let p = with_number(out, p, b", counts ", l.counts);
-    let p = with_number(out, p, b", flags ", l.flags);
-    let p = end_line(out, p);
-    flush(out, p);
-}
-
-// The folder, 1 if it was made now, 0 if it stood already, 2 if neither.
-fn make_folder(rt: HostRuntime, dir: &[u8]) -> u8 {
-    match folder_made(rt, dir) {
-        Ok(()) => 1,
-        Err(e) => {
-            if e.kind() == ErrorKind::AlreadyExists {
-                return 0;
-            }
-            failed(rt, dir, &e);
-            2
-        }
-    }
-}
-
-// A new part folder. The buffers are as lent: an erased array, counts and flags of 0.
-pub fn make(
-    rt: HostRuntime,
-    dir: &[u8],
-    page: &Page,
-    part: Part,
-    array: &Array,
-    counts: &Counts,
-    flags: &Flags,
-    out: &mut Paper,
-) {
-    let folder = make_folder(rt, dir);
-    if folder == 2 {
-        return;
-    }
-    let l = part.lengths;
-    let n = made(rt, dir, page, part.device, l, array, counts, flags);
-    if n == 5 {
-        tell_made(rt, out, dir, l);
-        return;
-    }
-    undo(rt, dir, n);
-    if folder == 1 {
-        remove_folder(rt, dir);
-    }
-}
-
-// Power-on from the buffers, of which the part's lengths are lent.
-pub fn power(
-    part: Part,
-    page: &[u8],
-    array: &[u8],
-    registers: &mut [u8],
-    counts: &[u8],
-    flags: &[u8],
-) -> Powered {
-    let l = part.lengths;
-    let a = count(l.array, array);
-    let r = count(l.registers, registers);
-    let c = count(l.counts, counts);
-    let f = count(l.flags, flags);
-    power_on(
-        page,
-        part.device,
-        &array[..a],
-        &mut registers[..r],
-        &counts[..c],
-        &flags[..f],
-    )
-}
-
-// A trace on those buffers.
-pub fn run_on(
-    t: Target,
-    part: Part,
-    records: &[u8],
-    room: &mut [u8],
-    page: &[u8],
-    array: &mut [u8],
-    registers: &mut [u8],
-    counts: &mut [u8],
-    flags: &[u8],
-) -> Target {
-    let l = part.lengths;
-    let a = count(l.array, array);
-    let r = count(l.registers, registers);
-    let c = count(l.counts, counts);
-    let f = count(l.flags, flags);
-    let ran = run(
-        t,
-        records,
-        room,
-        page,
-        &mut array[..a],
-        &mut registers[..r],
-        &mut counts[..c],
-        &flags[..f],
-    );
-    ran.target
 }

@@ -14,7 +14,7 @@ abbrev pub farther : ℕ → ℕ → ℕ
 farther start n = pick (ltb start 1000000000000) (start + n % 1000000) start
 
 -- the next page of the block, else the first page of the next block, else that of the next LUN
-unfoldable pub next_place : Geometry → Place → Place
+abbrev pub next_place : Geometry → Place → Place
 next_place g p = record {
   lun = pick (ltb (up p.page) g.pages) p.lun (pick (ltb (up p.block) g.blocks) p.lun (up p.lun));
   block = pick (ltb (up p.page) g.pages) p.block (pick (ltb (up p.block) g.blocks) (up p.block) 0);
@@ -28,10 +28,10 @@ abbrev pub is_at : Place → ℕ → ℕ → ℕ → Bool
 is_at p lun block page = eqb p.lun lun && eqb p.block block && eqb p.page page
 
 -- one step more towards a page, and none from there on
-unfoldable pub sought : Geometry → Place → ℕ → ℕ → ℕ → Place
+abbrev pub sought : Geometry → Place → ℕ → ℕ → ℕ → Place
 sought g p lun block page = pick (is_at p lun block page) p (next_place g p)
 
-unfoldable pub same_sizes : Geometry → Geometry → Bool
+abbrev pub same_sizes : Geometry → Geometry → Bool
 same_sizes g h =
     eqb g.bytes h.bytes && eqb g.spare h.spare && eqb g.pages h.pages && eqb g.blocks h.blocks
     && eqb g.luns h.luns && eqb g.programs h.programs

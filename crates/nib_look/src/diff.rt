@@ -3,10 +3,8 @@
 use crate::dump::place_words;
 use crate::walk::{Place, first_place, next_place, same_sizes};
 use nib_files::files::{join, open, read_full};
-use nib_files::part::{Array, Counts, Flags, Page, load, shape_of};
-use nib_print::pen::{Paper, Pen, To, begin, byte, count, end_line, failed, flush, number, text};
-use nib_print::say::with_number;
-use nib_text::reading::up;
+use nib_files::part::{Buffers, Counts, Flags, NO_SIZES, Page, geometry_in};
+use nib_print::pen::{Pen, To, Told, complain, failed, front_mut};
 use slices::{byte_at, part_of};
 use std::fs::File;
 use std::io::Write;
@@ -16,395 +14,184 @@ use target::sizes::page_size;
 // Room for the longest page.
 pub type Buffer = [u8; 18432];
 
+// The first folder's part, while the buffers hold the second's: all but its array, which is read once more.
+#[derive(Drop)]
+struct First {
+    page: Page,
+    device: u8,
+    // how many pages its array has
+    pages: usize,
+    counts: Counts,
+    flags: Flags,
+}
+
 // What was found so far.
-#[derive(Clone, Copy)]
-pub struct Found {
-    pub pen: Pen,
-    pub differs: bool,
-    // the first folder's array could be read
-    pub good: bool,
+#[derive(Drop)]
+struct Found {
+    pen: Pen,
+    differs: bool,
 }
 
 // How many bytes of two slices differ, and the first place where they do.
 #[derive(Clone, Copy)]
-struct Bytes {
+struct Difference {
     many: usize,
     first: usize,
 }
 
-fn byte_more(d: Bytes, i: usize, differs: bool) -> Bytes {
-    if !differs {
-        return d;
-    }
-    let first = if d.many == 0 { i } else { d.first };
-    Bytes {
-        many: up(d.many),
-        first,
-    }
+fn difference_of(a: &[u8], b: &[u8]) -> Option<Difference> {
+    let first = a.iter().zip(b).position(|(x, y)| x != y)?;
+    let many = a.iter().zip(b).filter(|(x, y)| x != y).count();
+    Some(Difference { many, first })
 }
 
-fn bytes_of(a: &[u8], b: &[u8]) -> Bytes {
-    let mut d = Bytes { many: 0, first: 0 };
-    let mut i: usize = 0;
-    while i < a.len() {
-        d = byte_more(d, i, !(a[i] == byte_at(b, i)));
-        i += 1;
+impl Found {
+    fn two_bytes(&mut self, a: u8, b: u8) {
+        self.pen.text(b": ");
+        self.pen.byte(a);
+        self.pen.text(b" and ");
+        self.pen.byte(b);
+        self.pen.end_line();
+        self.differs = true;
     }
-    d
-}
 
-fn two_bytes(out: &mut Paper, p: Pen, a: u8, b: u8) -> Pen {
-    let p = text(out, p, b": ");
-    let p = byte(out, p, a);
-    let p = text(out, p, b" and ");
-    let p = byte(out, p, b);
-    end_line(out, p)
-}
+    // Two numbers after words, as 'flag 0 and 1'.
+    fn two_numbers(&mut self, words: &[u8], a: u8, between: &[u8], b: u8) {
+        self.pen.with_number(words, a as usize);
+        self.pen.with_number(between, b as usize);
+        self.pen.end_line();
+        self.differs = true;
+    }
 
-fn bytes_line(out: &mut Paper, p: Pen, words: &[u8], d: Bytes, a: &[u8], b: &[u8]) -> Pen {
-    let p = number(out, p, d.many);
-    let p = with_number(out, p, words, d.first);
-    two_bytes(out, p, byte_at(a, d.first), byte_at(b, d.first))
-}
+    fn bytes(&mut self, d: Difference, words: &[u8], a: &[u8], b: &[u8]) {
+        self.pen.number(d.many);
+        self.pen.with_number(words, d.first);
+        self.two_bytes(byte_at(a, d.first), byte_at(b, d.first));
+    }
 
-fn pages_differ(out: &mut Paper, f: Found, a: &Page, b: &Page) -> Found {
-    let d = bytes_of(a, b);
-    if d.many == 0 {
-        return f;
-    }
-    let p = f.pen;
-    let p = text(out, p, b"page: ");
-    let pen = bytes_line(out, p, b" bytes differ, the first is byte ", d, a, b);
-    Found {
-        pen,
-        differs: true,
-        ..f
-    }
-}
-
-fn ids_differ(out: &mut Paper, f: Found, a: u8, b: u8) -> Found {
-    if a == b {
-        return f;
-    }
-    let p = f.pen;
-    let p = text(out, p, b"id");
-    let pen = two_bytes(out, p, a, b);
-    Found {
-        pen,
-        differs: true,
-        ..f
-    }
-}
-
-// Two numbers after words, as 'flag 0 and 1'.
-fn two_numbers(out: &mut Paper, p: Pen, words: &[u8], a: u8, between: &[u8], b: u8) -> Pen {
-    let p = with_number(out, p, words, a as usize);
-    let p = with_number(out, p, between, b as usize);
-    end_line(out, p)
-}
-
-// The flags of the block, at its first page.
-fn flags_differ(out: &mut Paper, f: Found, at: Place, a: u8, b: u8) -> Found {
-    if (a == b) | (0 < at.page) {
-        return f;
-    }
-    let p = f.pen;
-    let p = with_number(out, p, b"LUN ", at.lun);
-    let p = with_number(out, p, b", block ", at.block);
-    let pen = two_numbers(out, p, b": flag ", a, b" and ", b);
-    Found {
-        pen,
-        differs: true,
-        ..f
-    }
-}
-
-fn counts_differ(out: &mut Paper, f: Found, at: Place, a: u8, b: u8) -> Found {
-    if a == b {
-        return f;
-    }
-    let p = f.pen;
-    let p = place_words(out, p, at);
-    let pen = two_numbers(out, p, b"programmed ", a, b" times and ", b);
-    Found {
-        pen,
-        differs: true,
-        ..f
-    }
-}
-
-fn arrays_differ(out: &mut Paper, f: Found, at: Place, a: &[u8], b: &[u8]) -> Found {
-    let d = bytes_of(a, b);
-    if d.many == 0 {
-        return f;
-    }
-    let p = f.pen;
-    let p = place_words(out, p, at);
-    let pen = bytes_line(out, p, b" bytes differ, the first at column ", d, a, b);
-    Found {
-        pen,
-        differs: true,
-        ..f
-    }
-}
-
-// A page of the first folder's array that can't be read any more.
-fn unread(rt: HostRuntime, out: &mut Paper, f: Found, path: &[u8]) -> Found {
-    let p = f.pen;
-    let pen = flush(out, p);
-    let _ = rt.stderr().write_all(b"nib: ");
-    let _ = rt.stderr().write_all(path);
-    let _ = rt.stderr().write_all(b": is shorter than it was\n");
-    Found {
-        pen,
-        good: false,
-        ..f
-    }
-}
-
-// Whether there were so many bytes more.
-fn read_front(input: &mut File, held: &mut [u8], n: usize) -> bool {
-    let m = count(n, held);
-    let got = read_full(input, &mut held[..m]);
-    got == m
-}
-
-// The next page of the first folder's array, of `n` bytes, beside the second's.
-fn read_page(
-    rt: HostRuntime,
-    out: &mut Paper,
-    f: Found,
-    input: &mut File,
-    path: &[u8],
-    at: Place,
-    n: usize,
-    held: &mut Buffer,
-    other: &[u8],
-) -> Found {
-    if !read_front(input, held, n) {
-        return unread(rt, out, f, path);
-    }
-    arrays_differ(out, f, at, part_of(held, 0, n), part_of(other, at.start, n))
-}
-
-fn one_place(
-    rt: HostRuntime,
-    out: &mut Paper,
-    f: Found,
-    input: &mut File,
-    path: &[u8],
-    g: Geometry,
-    at: Place,
-    held: &mut Buffer,
-    array: &Array,
-    counts: &Counts,
-    other_counts: &Counts,
-    flags: &Flags,
-    other_flags: &Flags,
-) -> Found {
-    if !f.good {
-        return f;
-    }
-    let a = byte_at(flags, at.flag);
-    let f = flags_differ(out, f, at, a, byte_at(other_flags, at.flag));
-    let f = read_page(rt, out, f, input, path, at, page_size(g), held, array);
-    let a = byte_at(counts, at.count);
-    counts_differ(out, f, at, a, byte_at(other_counts, at.count))
-}
-
-// Every page, block by block.
-fn places(
-    rt: HostRuntime,
-    out: &mut Paper,
-    from: Found,
-    input: &mut File,
-    path: &[u8],
-    g: Geometry,
-    pages: usize,
-    held: &mut Buffer,
-    array: &Array,
-    counts: &Counts,
-    other_counts: &Counts,
-    flags: &Flags,
-    other_flags: &Flags,
-) -> Found {
-    let mut f = from;
-    let mut at = first_place();
-    let mut i: usize = 0;
-    while i < pages {
-        f = one_place(
-            rt,
-            out,
-            f,
-            input,
-            path,
-            g,
-            at,
-            held,
-            array,
-            counts,
-            other_counts,
-            flags,
-            other_flags,
-        );
-        at = next_place(g, at);
-        i += 1;
-    }
-    f
-}
-
-fn opened(
-    rt: HostRuntime,
-    out: &mut Paper,
-    f: Found,
-    path: &[u8],
-    g: Geometry,
-    pages: usize,
-    array: &Array,
-    counts: &Counts,
-    other_counts: &Counts,
-    flags: &Flags,
-    other_flags: &Flags,
-) -> Found {
-    let mut held = [0u8; 18432];
-    match open(rt, path) {
-        Err(e) => {
-            failed(rt, path, &e);
-            Found { good: false, ..f }
-        }
-        Ok(file) => {
-            let mut input = file;
-            places(
-                rt,
-                out,
-                f,
-                &mut input,
-                path,
-                g,
-                pages,
-                &mut held,
-                array,
-                counts,
-                other_counts,
-                flags,
-                other_flags,
-            )
+    fn pages(&mut self, a: &Page, b: &Page) {
+        if let Some(d) = difference_of(a, b) {
+            self.pen.text(b"page: ");
+            self.bytes(d, b" bytes differ, the first is byte ", a, b);
         }
     }
-}
 
-fn arrays(
-    rt: HostRuntime,
-    dir: &[u8],
-    out: &mut Paper,
-    f: Found,
-    g: Geometry,
-    pages: usize,
-    array: &Array,
-    counts: &Counts,
-    other_counts: &Counts,
-    flags: &Flags,
-    other_flags: &Flags,
-) -> Found {
-    let mut path = [0u8; 4096];
-    let n = join(&mut path, dir, b"array");
-    opened(
-        rt,
-        out,
-        f,
-        &path[..n],
-        g,
-        pages,
-        array,
-        counts,
-        other_counts,
-        flags,
-        other_flags,
-    )
-}
-
-fn not_compared(out: &mut Paper, f: Found) -> Found {
-    let p = f.pen;
-    let pen = text(
-        out,
-        p,
-        b"array, counts and flags are of other lengths, and are not compared\n",
-    );
-    Found {
-        pen,
-        differs: true,
-        ..f
+    fn ids(&mut self, a: u8, b: u8) {
+        if a != b {
+            self.pen.text(b"id");
+            self.two_bytes(a, b);
+        }
     }
-}
 
-// The last line of a diff that found something: tools/nib gives the exit status 3 for it.
-fn told(rt: HostRuntime, out: &Paper, f: Found) {
-    let p = f.pen;
-    let p = flush(out, p);
-    if f.differs & f.good & p.good {
-        let _ = rt.stderr().write_all(b"nib: the parts differ\n");
+    // The flags of the block, at its first page.
+    fn flags(&mut self, at: Place, a: u8, b: u8) {
+        if a != b && at.page == 0 {
+            self.pen.with_number(b"LUN ", at.lun);
+            self.pen.with_number(b", block ", at.block);
+            self.two_numbers(b": flag ", a, b" and ", b);
+        }
+    }
+
+    fn counts(&mut self, at: Place, a: u8, b: u8) {
+        if a != b {
+            place_words(&mut self.pen, at);
+            self.two_numbers(b"programmed ", a, b" times and ", b);
+        }
+    }
+
+    fn arrays(&mut self, at: Place, a: &[u8], b: &[u8]) {
+        if let Some(d) = difference_of(a, b) {
+            place_words(&mut self.pen, at);
+            self.bytes(d, b" bytes differ, the first at column ", a, b);
+        }
+    }
+
+    // The next page of the first folder's array, of `n` bytes, beside the second's. It may not be there any more.
+    fn next_page(
+        &mut self,
+        rt: HostRuntime,
+        input: &mut File,
+        path: &[u8],
+        at: Place,
+        n: usize,
+        held: &mut Buffer,
+        other: &[u8],
+    ) -> Result<(), Told> {
+        let page = front_mut(held, n);
+        if read_full(input, page) < page.len() {
+            self.pen.flush();
+            return Err(complain(rt, path, b": is shorter than it was\n"));
+        }
+        self.arrays(at, page, part_of(other, at.start, n));
+        Ok(())
+    }
+
+    // Every page, block by block.
+    fn places(
+        &mut self,
+        rt: HostRuntime,
+        dir: &[u8],
+        g: Geometry,
+        one: &First,
+        two: &Buffers<'_>,
+    ) -> Result<(), Told> {
+        let joined = join(dir, b"array");
+        let path = joined.as_slice();
+        let mut input = open(rt, path).map_err(|e| failed(rt, path, &e))?;
+        let mut held = [0u8; 18432];
+        let n = page_size(g);
+        let mut at = first_place();
+        for _ in 0..one.pages {
+            self.flags(
+                at,
+                byte_at(&one.flags, at.flag),
+                byte_at(&two.flags, at.flag),
+            );
+            let read = self.next_page(rt, &mut input, path, at, n, &mut held, &*two.array);
+            self.counts(
+                at,
+                byte_at(&one.counts, at.count),
+                byte_at(&two.counts, at.count),
+            );
+            read?;
+            at = next_place(g, at);
+        }
+        Ok(())
     }
 }
 
 // `nib diff DIR DIR`.
-pub fn diff(
-    rt: HostRuntime,
-    dir: &[u8],
-    other: &[u8],
-    out: &mut Paper,
-    page: &mut Page,
-    array: &mut Array,
-    counts: &mut Counts,
-    flags: &mut Flags,
-) {
-    let mut other_page = [0u8; 256];
-    let mut other_counts = [0u8; 262144];
-    let mut other_flags = [0u8; 16384];
-    let one = load(rt, dir, page, array, counts, flags);
-    if !one.good {
-        return;
-    }
-    let two = load(
-        rt,
-        other,
-        &mut other_page,
-        array,
-        &mut other_counts,
-        &mut other_flags,
-    );
-    if !two.good {
-        return;
-    }
-    let shape = shape_of(rt, dir);
-    let g = shape.geometry;
-    let shape = shape_of(rt, other);
-    let h = shape.geometry;
-    let pen = begin(rt, To::Output);
-    let f = Found {
-        pen,
-        differs: false,
-        good: true,
+pub fn diff(rt: HostRuntime, dir: &[u8], other: &[u8], part: &mut Buffers<'_>) -> Result<(), Told> {
+    part.load(rt, dir)?;
+    let one = First {
+        page: part.page,
+        device: part.device,
+        pages: part.lengths.counts,
+        counts: part.counts,
+        flags: part.flags,
     };
-    let f = pages_differ(out, f, page, &other_page);
-    let f = ids_differ(out, f, one.device, two.device);
-    if !same_sizes(g, h) {
-        let f = not_compared(out, f);
-        told(rt, out, f);
-        return;
+    part.load(rt, other)?;
+    // a page that can't be read a second time is told of, and then has the sizes of no part
+    let g = geometry_in(rt, dir).unwrap_or(NO_SIZES);
+    let h = geometry_in(rt, other).unwrap_or(NO_SIZES);
+    let mut found = Found {
+        pen: Pen::new(rt, To::Output),
+        differs: false,
+    };
+    found.pages(&one.page, &part.page);
+    found.ids(one.device, part.device);
+    let compared = if same_sizes(g, h) {
+        found.places(rt, dir, g, &one, part)
+    } else {
+        found.pen.text(b"array, counts and flags are of other lengths, and are not compared\n");
+        found.differs = true;
+        Ok(())
+    };
+    found.pen.flush();
+    compared?;
+    // the last line of a diff that found something: tools/nib gives the exit status 3 for it
+    if found.differs && found.pen.is_good() {
+        let _ = rt.stderr().write_all(b"nib: the parts differ\n");
     }
-    let l = one.lengths;
-    let f = arrays(
-        rt,
-        dir,
-        out,
-        f,
-        g,
-        l.counts,
-        array,
-        counts,
-        &other_counts,
-        flags,
-        &other_flags,
-    );
-    told(rt, out, f);
+    Ok(())
 }

@@ -1,11 +1,9 @@
 // The pages of a part one after the other, as the array, the counts and the flags have them.
 ghost use Rattle.std.specs.Prelude.{◌≡◌};
-ghost use Rattle.target.specs.Pick.{pick};
 ghost use Rattle.nib_look.specs.Walk.{first_place, farther, next_place, is_at, sought, same_sizes};
 
 use nib_text::reading::up;
 use target::Geometry;
-use target::picks::pick_number;
 use target::sizes::page_size;
 
 #[derive(Clone, Copy)]
@@ -32,12 +30,6 @@ pub fn first_place() -> Place
     }
 }
 
-fn pick_place(b: bool, x: Place, y: Place) -> Place
-    ensures { result ≡ pick b x y }
-{
-    if b { x } else { y }
-}
-
 // No array is as long as that.
 fn farther(start: usize, n: usize) -> usize
     ensures { result ≡ farther start n }
@@ -53,42 +45,59 @@ fn farther(start: usize, n: usize) -> usize
 pub fn next_place(g: Geometry, p: Place) -> Place
     ensures { result ≡ next_place g p }
 {
-    let inside = up(p.page) < g.pages;
-    let within = up(p.block) < g.blocks;
-    let block = pick_number(within, up(p.block), 0);
-    let lun = pick_number(within, p.lun, up(p.lun));
-    Place {
-        lun: pick_number(inside, p.lun, lun),
-        block: pick_number(inside, p.block, block),
-        page: pick_number(inside, up(p.page), 0),
+    let next = Place {
         count: up(p.count),
-        flag: pick_number(inside, p.flag, up(p.flag)),
         start: farther(p.start, page_size(g)),
+        ..p
+    };
+    if up(p.page) < g.pages {
+        Place {
+            page: up(p.page),
+            ..next
+        }
+    } else if up(p.block) < g.blocks {
+        Place {
+            page: 0,
+            block: up(p.block),
+            flag: up(p.flag),
+            ..next
+        }
+    } else {
+        Place {
+            page: 0,
+            block: 0,
+            lun: up(p.lun),
+            flag: up(p.flag),
+            ..next
+        }
     }
 }
 
 fn is_at(p: Place, lun: usize, block: usize, page: usize) -> bool
     ensures { result ≡ is_at p lun block page }
 {
-    (p.lun == lun) & (p.block == block) & (p.page == page)
+    p.lun == lun && p.block == block && p.page == page
 }
 
 // One step more towards a page, and none from there on.
 pub fn sought(g: Geometry, p: Place, lun: usize, block: usize, page: usize) -> Place
     ensures { result ≡ sought g p lun block page }
 {
-    let next = next_place(g, p);
-    pick_place(is_at(p, lun, block, page), p, next)
+    if is_at(p, lun, block, page) {
+        p
+    } else {
+        next_place(g, p)
+    }
 }
 
-// Two parts have the same sizes, and so many programs a page.
+// Two parts have the same sizes, and so many programs a page: size by size, as the definition has it.
 pub fn same_sizes(g: Geometry, h: Geometry) -> bool
     ensures { result ≡ same_sizes g h }
 {
-    (g.bytes == h.bytes)
-        & (g.spare == h.spare)
-        & (g.pages == h.pages)
-        & (g.blocks == h.blocks)
-        & (g.luns == h.luns)
-        & (g.programs == h.programs)
+    g.bytes == h.bytes
+        && g.spare == h.spare
+        && g.pages == h.pages
+        && g.blocks == h.blocks
+        && g.luns == h.luns
+        && g.programs == h.programs
 }

@@ -1,285 +1,185 @@
 // What a parameter page says, and how many blocks of a part folder are blank.
 use nib_files::files::{join, open};
-use nib_files::part::{Array, Counts, Flags, Page, Registers, load, page_in, power, refuse};
-use nib_print::input::printable;
-use nib_print::pen::{Paper, Pen, To, begin, byte, end_line, flush, number, pad, put, text, wide};
-use nib_print::say::{power_sentence, with_number};
-use nib_sizes::{Lengths, Plan, plan_of};
+use nib_files::part::{Buffers, Page, page_in, refuse};
+use nib_print::pen::{Pen, To, Told};
+use nib_sizes::{Lengths, Unplanned, plan_of};
 use page::crc::page_crc;
 use page::fields::{
     address_cycles, bit_of, blocks_a_lun, data_bytes, features, lun_count, maker_id,
     optional_commands, pages_a_block, programs_a_page, spare_bytes, stored_crc,
 };
-use power::PowerAnswer;
-use slices::byte_at;
+use slices::part_of;
 use target::Target;
 use target::records::blank_at;
 
-fn label(out: &mut Paper, p: Pen, words: &[u8]) -> Pen {
-    let p = text(out, p, words);
-    pad(out, p, 18)
-}
-
 // A number, and its limits where it is outside them.
-fn within(out: &mut Paper, p: Pen, words: &[u8], n: usize, low: usize, high: usize) -> Pen {
-    let p = label(out, p, words);
-    let p = number(out, p, n);
-    let p = limits(out, p, n, low, high);
-    end_line(out, p)
-}
-
-fn limits(out: &mut Paper, p: Pen, n: usize, low: usize, high: usize) -> Pen {
-    if (low <= n) & (n <= high) {
-        return p;
+fn within(pen: &mut Pen, words: &[u8], n: usize, low: usize, high: usize) {
+    pen.label(words);
+    pen.number(n);
+    if !(low..=high).contains(&n) {
+        pen.with_number(b"  outside its limits, ", low);
+        pen.with_number(b" to ", high);
     }
-    let p = with_number(out, p, b"  outside its limits, ", low);
-    with_number(out, p, b" to ", high)
+    pen.end_line();
 }
 
-// Bytes as text, from `from` up to `to`.
-fn letters(out: &mut Paper, p: Pen, page: &[u8], from: usize, to: usize) -> Pen {
-    let mut q = p;
-    let mut i = from;
-    while i < to {
-        q = put(out, q, printable(byte_at(page, i)));
-        i += 1;
-    }
-    q
-}
-
-fn lettered(out: &mut Paper, p: Pen, words: &[u8], page: &[u8], from: usize, to: usize) -> Pen {
-    let p = label(out, p, words);
-    let p = letters(out, p, page, from, to);
-    end_line(out, p)
+fn lettered(pen: &mut Pen, words: &[u8], letters: &[u8]) {
+    pen.label(words);
+    pen.shown(letters);
+    pen.end_line();
 }
 
 // What a bit that is 1 stands for.
-fn named_bit(out: &mut Paper, p: Pen, x: u16, k: u16, words: &[u8]) -> Pen {
-    if bit_of(x, k) { text(out, p, words) } else { p }
+fn named_bit(pen: &mut Pen, x: u16, k: u16, words: &[u8]) {
+    if bit_of(x, k) {
+        pen.text(words);
+    }
 }
 
-fn feature_words(out: &mut Paper, p: Pen, page: &[u8]) -> Pen {
+fn feature_words(pen: &mut Pen, page: &[u8]) {
     let x = features(page);
-    let p = label(out, p, b"features");
-    let p = wide(out, p, x);
-    let p = named_bit(out, p, x, 0, b"  16-bit bus (not taken)");
-    let p = named_bit(out, p, x, 1, b"  more than one LUN");
-    let p = named_bit(out, p, x, 2, b"  pages in any order");
-    let p = named_bit(out, p, x, 8, b"  program-clear");
-    end_line(out, p)
+    pen.label(b"features");
+    pen.wide(x);
+    named_bit(pen, x, 0, b"  16-bit bus (not taken)");
+    named_bit(pen, x, 1, b"  more than one LUN");
+    named_bit(pen, x, 2, b"  pages in any order");
+    named_bit(pen, x, 8, b"  program-clear");
+    pen.end_line();
 }
 
-fn optional_words(out: &mut Paper, p: Pen, page: &[u8]) -> Pen {
+fn optional_words(pen: &mut Pen, page: &[u8]) {
     let x = optional_commands(page);
-    let p = label(out, p, b"optional commands");
-    let p = wide(out, p, x);
-    let p = named_bit(out, p, x, 2, b"  EEh and EFh");
-    let p = named_bit(out, p, x, 3, b"  78h");
-    let p = named_bit(out, p, x, 6, b"  06h");
-    end_line(out, p)
+    pen.label(b"optional commands");
+    pen.wide(x);
+    named_bit(pen, x, 2, b"  EEh and EFh");
+    named_bit(pen, x, 3, b"  78h");
+    named_bit(pen, x, 6, b"  06h");
+    pen.end_line();
 }
 
-fn maker_words(out: &mut Paper, p: Pen, page: &[u8]) -> Pen {
-    let p = label(out, p, b"maker ID");
-    let p = byte(out, p, maker_id(page));
-    end_line(out, p)
+fn maker_words(pen: &mut Pen, page: &[u8]) {
+    pen.label(b"maker ID");
+    pen.byte(maker_id(page));
+    pen.end_line();
 }
 
-fn cycle_words(out: &mut Paper, p: Pen, page: &[u8]) -> Pen {
+fn cycle_words(pen: &mut Pen, page: &[u8]) {
     let n = address_cycles(page);
-    let p = label(out, p, b"address cycles");
-    let p = with_number(out, p, b"column ", (n / 16) as usize);
-    let p = with_number(out, p, b", row ", (n % 16) as usize);
-    let p = cycles_taken(out, p, n);
-    end_line(out, p)
-}
-
-fn cycles_taken(out: &mut Paper, p: Pen, n: u8) -> Pen {
-    if n == 0x23 {
-        p
-    } else {
-        text(out, p, b"  only column 2, row 3 is taken")
+    pen.label(b"address cycles");
+    pen.with_number(b"column ", (n / 16) as usize);
+    pen.with_number(b", row ", (n % 16) as usize);
+    if n != 0x23 {
+        pen.text(b"  only column 2, row 3 is taken");
     }
+    pen.end_line();
 }
 
-fn crc_words(out: &mut Paper, p: Pen, page: &[u8]) -> Pen {
-    let p = label(out, p, b"CRC");
-    let p = wide(out, p, stored_crc(page));
-    let p = text(out, p, b"  of its bytes ");
-    let p = wide(out, p, page_crc(page));
-    end_line(out, p)
+fn crc_words(pen: &mut Pen, page: &[u8]) {
+    pen.label(b"CRC");
+    pen.wide(stored_crc(page));
+    pen.text(b"  of its bytes ");
+    pen.wide(page_crc(page));
+    pen.end_line();
 }
 
-fn length_words(out: &mut Paper, p: Pen, l: Lengths) -> Pen {
-    let p = with_number(out, p, b"accepted, with an array of ", l.array);
-    let p = with_number(out, p, b" bytes, registers of ", l.registers);
-    let p = with_number(out, p, b", counts of ", l.counts);
-    with_number(out, p, b", flags of ", l.flags)
+fn length_words(pen: &mut Pen, l: Lengths) {
+    pen.with_number(b"accepted, with an array of ", l.array);
+    pen.with_number(b" bytes, registers of ", l.registers);
+    pen.with_number(b", counts of ", l.counts);
+    pen.with_number(b", flags of ", l.flags);
 }
 
-fn large_words(out: &mut Paper, p: Pen, l: Lengths) -> Pen {
-    let p = length_words(out, p, l);
-    let p = end_line(out, p);
-    let p = label(out, p, b"nib");
-    text(
-        out,
-        p,
-        b"holds arrays of at most 4194304 bytes; python3 -m nibtoggle has no such limit",
-    )
-}
-
-fn plan_words(out: &mut Paper, p: Pen, plan: Plan) -> Pen {
+fn power_words(pen: &mut Pen, plan: Result<Lengths, Unplanned>) {
+    pen.label(b"power-on");
     match plan {
-        Plan::Sizes(l) => length_words(out, p, l),
-        Plan::Refused(why) => power_sentence(out, p, why),
-        Plan::TooLarge(l) => large_words(out, p, l),
+        Ok(l) => length_words(pen, l),
+        Err(Unplanned::Refused(why)) => pen.power_sentence(why),
+        Err(Unplanned::TooLarge(l)) => {
+            length_words(pen, l);
+            pen.end_line();
+            pen.label(b"nib");
+            pen.text(
+                b"holds arrays of at most 4194304 bytes; python3 -m nibtoggle has no such limit",
+            );
+        }
     }
-}
-
-fn power_words(out: &mut Paper, p: Pen, page: &[u8]) -> Pen {
-    let plan = plan_of(page);
-    let p = label(out, p, b"power-on");
-    let p = plan_words(out, p, plan);
-    end_line(out, p)
-}
-
-fn most_luns(page: &[u8]) -> usize {
-    if bit_of(features(page), 1) { 4 } else { 1 }
+    pen.end_line();
 }
 
 // What the page is, and what its part can do.
-fn first_fields(out: &mut Paper, p: Pen, page: &[u8]) -> Pen {
-    let p = within(out, p, b"length", page.len(), 256, 256);
-    let p = lettered(out, p, b"signature", page, 0, 4);
-    let p = feature_words(out, p, page);
-    optional_words(out, p, page)
+fn first_fields(pen: &mut Pen, page: &[u8]) {
+    within(pen, b"length", page.len(), 256, 256);
+    lettered(pen, b"signature", part_of(page, 0, 4));
+    feature_words(pen, page);
+    optional_words(pen, page);
 }
 
-fn maker_fields(out: &mut Paper, p: Pen, page: &[u8]) -> Pen {
-    let p = lettered(out, p, b"maker", page, 32, 44);
-    let p = lettered(out, p, b"model", page, 44, 64);
-    maker_words(out, p, page)
+fn maker_fields(pen: &mut Pen, page: &[u8]) {
+    lettered(pen, b"maker", part_of(page, 32, 12));
+    lettered(pen, b"model", part_of(page, 44, 20));
+    maker_words(pen, page);
 }
 
-fn size_fields(out: &mut Paper, p: Pen, page: &[u8]) -> Pen {
-    let p = within(out, p, b"data bytes", data_bytes(page), 16, 16384);
-    let p = within(out, p, b"spare bytes", spare_bytes(page), 0, 2048);
-    let p = within(out, p, b"pages a block", pages_a_block(page), 1, 256);
-    let p = within(out, p, b"blocks a LUN", blocks_a_lun(page), 1, 4096);
-    within(out, p, b"LUNs", lun_count(page), 1, most_luns(page))
+fn size_fields(pen: &mut Pen, page: &[u8]) {
+    let most_luns = if bit_of(features(page), 1) { 4 } else { 1 };
+    within(pen, b"data bytes", data_bytes(page), 16, 16384);
+    within(pen, b"spare bytes", spare_bytes(page), 0, 2048);
+    within(pen, b"pages a block", pages_a_block(page), 1, 256);
+    within(pen, b"blocks a LUN", blocks_a_lun(page), 1, 4096);
+    within(pen, b"LUNs", lun_count(page), 1, most_luns);
 }
 
-fn last_fields(out: &mut Paper, p: Pen, page: &[u8]) -> Pen {
-    let p = cycle_words(out, p, page);
-    let p = within(out, p, b"programs a page", programs_a_page(page), 1, 8);
-    let p = crc_words(out, p, page);
-    power_words(out, p, page)
+fn last_fields(pen: &mut Pen, page: &[u8]) {
+    cycle_words(pen, page);
+    within(pen, b"programs a page", programs_a_page(page), 1, 8);
+    crc_words(pen, page);
+    power_words(pen, plan_of(page));
 }
 
 // Field by field, and what power-on would answer.
-fn fields(out: &mut Paper, p: Pen, page: &[u8]) -> Pen {
-    let p = first_fields(out, p, page);
-    let p = maker_fields(out, p, page);
-    let p = size_fields(out, p, page);
-    last_fields(out, p, page)
+fn shown(rt: HostRuntime, page: &Page) {
+    let mut pen = Pen::new(rt, To::Output);
+    first_fields(&mut pen, page);
+    maker_fields(&mut pen, page);
+    size_fields(&mut pen, page);
+    last_fields(&mut pen, page);
+    pen.flush();
 }
 
-fn shown(rt: HostRuntime, page: &Page, out: &mut Paper) {
-    let p = begin(rt, To::Output);
-    let p = fields(out, p, page);
-    flush(out, p);
-}
-
-// A LUN and its number of blank blocks, where there is such a LUN.
-fn lun_blank(out: &mut Paper, p: Pen, words: &[u8], t: Target, l: usize) -> Pen {
-    let g = t.geometry;
-    let luns = t.luns;
-    if g.luns <= l {
-        return p;
+// Each LUN and its number of blank blocks.
+fn tell_blank(rt: HostRuntime, t: Target) {
+    let mut pen = Pen::new(rt, To::Output);
+    pen.label(b"blank blocks");
+    for l in 0..t.geometry.luns.min(4) {
+        let words: &[u8] = if l == 0 { b"LUN " } else { b", LUN " };
+        pen.with_number(words, l);
+        pen.with_number(b": ", blank_at(t.luns, l) as usize);
     }
-    let p = with_number(out, p, words, l);
-    with_number(out, p, b": ", blank_at(luns, l) as usize)
-}
-
-fn blank_words(out: &mut Paper, p: Pen, t: Target) -> Pen {
-    let p = label(out, p, b"blank blocks");
-    let p = lun_blank(out, p, b"LUN ", t, 0);
-    let p = lun_blank(out, p, b", LUN ", t, 1);
-    let p = lun_blank(out, p, b", LUN ", t, 2);
-    let p = lun_blank(out, p, b", LUN ", t, 3);
-    end_line(out, p)
-}
-
-fn tell_blank(rt: HostRuntime, out: &mut Paper, t: Target) {
-    let p = begin(rt, To::Output);
-    let p = blank_words(out, p, t);
-    flush(out, p);
+    pen.end_line();
+    pen.flush();
 }
 
 // Power-on counts the folder's blank blocks.
-fn count_blank(
-    rt: HostRuntime,
-    dir: &[u8],
-    out: &mut Paper,
-    page: &mut Page,
-    array: &mut Array,
-    registers: &mut Registers,
-    counts: &mut Counts,
-    flags: &mut Flags,
-) {
-    let part = load(rt, dir, page, array, counts, flags);
-    if !part.good {
-        return;
-    }
-    let on = power(part, page, array, registers, counts, flags);
-    let answer = on.answer;
-    let t = on.target;
-    match answer {
-        PowerAnswer::Accepted => tell_blank(rt, out, t),
-        PowerAnswer::Refused(why) => refuse(rt, dir, why),
-    }
-}
-
-// The page is of a part that nib holds; of another the lines above have told.
-fn is_held(page: &[u8]) -> bool {
-    let plan = plan_of(page);
-    match plan {
-        Plan::Sizes(_) => true,
-        Plan::Refused(_) => false,
-        Plan::TooLarge(_) => false,
-    }
-}
-
-fn is_file(rt: HostRuntime, path: &[u8]) -> bool {
-    match open(rt, path) {
-        Ok(_) => true,
-        Err(_) => false,
-    }
+fn count_blank(rt: HostRuntime, dir: &[u8], part: &mut Buffers<'_>) -> Result<(), Told> {
+    part.load(rt, dir)?;
+    let t = part.power().map_err(|e| refuse(rt, dir, e.why))?;
+    tell_blank(rt, t);
+    Ok(())
 }
 
 // `nib page`, of a page in a file or of a part folder's. What is no page is told of as an error, and no field of it is made up.
-pub fn show_page(
-    rt: HostRuntime,
-    path: &[u8],
-    out: &mut Paper,
-    page: &mut Page,
-    array: &mut Array,
-    registers: &mut Registers,
-    counts: &mut Counts,
-    flags: &mut Flags,
-) {
-    let mut inside = [0u8; 4096];
-    let n = join(&mut inside, path, b"page");
-    if !is_file(rt, &inside[..n]) {
-        if page_in(rt, path, page) {
-            shown(rt, page, out);
-        }
-        return;
+pub fn show_page(rt: HostRuntime, path: &[u8], part: &mut Buffers<'_>) -> Result<(), Told> {
+    let inside = join(path, b"page");
+    if open(rt, inside.as_slice()).is_err() {
+        page_in(rt, path, &mut part.page)?;
+        shown(rt, &part.page);
+        return Ok(());
     }
-    if page_in(rt, &inside[..n], page) {
-        shown(rt, page, out);
-        if is_held(page) {
-            count_blank(rt, path, out, page, array, registers, counts, flags);
-        }
+    page_in(rt, inside.as_slice(), &mut part.page)?;
+    shown(rt, &part.page);
+    // of a part that nib doesn't hold the lines above have told
+    if plan_of(&part.page).is_ok() {
+        count_blank(rt, path, part)?;
     }
+    Ok(())
 }

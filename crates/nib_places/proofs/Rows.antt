@@ -1,6 +1,6 @@
 -- A row of LUN, block and page: its fields are these again, and it has no more bits than its cycles.
 --     rows_back       the law that is stated in specs/Places.antt
---     narrow-widths   no field has more than 24 bits; what the code shifts by
+--     narrow_widths   no field has more than 24 bits; what the code shifts by
 --     small           and no sum on the way is larger
 -- Assumes nothing.
 use mathlib.Core.Path.{◌≡◌, ap, ◌∙◌}
@@ -16,7 +16,7 @@ use Rattle.target.proofs.Both.{both4}
 use Rattle.target.proofs.Widths.{width-holds}
 use Rattle.target.specs.Address.{field_width, page_of, block_of, lun_of}
 use Rattle.target.specs.declared.Geometry.{Geometry}
-use Rattle.nib_places.specs.Places.{rows_fit, is_there, row_of, RowsBack}
+use Rattle.nib_places.specs.Places.{is_there, row_of, RowsBack}
 
 -- a number below a field's is held by its bits
 held : (n k : ℕ) → k < n → k < 2 ^ field_width n
@@ -29,7 +29,6 @@ record There (g : Geometry) (lun block page : ℕ) : Type 0 where
   its-page : page < 2 ^ field_width g.pages
 
 there : (g : Geometry) (lun block page : ℕ) → is_there g lun block page ≡ true → There g lun block page
-unfolding is_there rows_fit
 there g lun block page h =
     let bits = field_width g.pages + field_width g.blocks + field_width g.luns in
     let tests = both4 (leb bits 24) (ltb lun g.luns) (ltb block g.blocks) (ltb page g.pages) h in
@@ -66,8 +65,8 @@ pub record Narrow (g : Geometry) : Type 0 where
   pub pages : field_width g.pages ≤ 24
   pub blocks : field_width g.blocks ≤ 24
 
-pub narrow-widths : (g : Geometry) (lun block page : ℕ) → is_there g lun block page ≡ true → Narrow g
-narrow-widths g lun block page h =
+pub narrow_widths : (g : Geometry) (lun block page : ℕ) → is_there g lun block page ≡ true → Narrow g
+narrow_widths g lun block page h =
     let bits : field_width g.pages + field_width g.blocks + field_width g.luns ≤ 24 = (there g lun block page h).bits in
     record { pages = omega arith; blocks = omega arith }
 

@@ -7,10 +7,9 @@ ghost use Rattle.nib_text.specs.declared.reading.Said.TheVariants as said;
 ghost use Rattle.nib_places.specs.Places.{rows_fit, is_there, row_of, ranged, on_part, no_values, stored, job_of};
 
 use jobs::Job;
-use jobs::numbers::NamedJob;
 use jobs::reading::First;
 use nib_text::job_words::Asks;
-use nib_text::reading::{Said, Wrong, pick_said};
+use nib_text::reading::{Said, Wrong};
 use target::Geometry;
 use target::address::width;
 use target::sizes::page_size;
@@ -36,7 +35,7 @@ pub fn rows_fit(g: Geometry) -> bool
 pub fn is_there(g: Geometry, lun: usize, block: usize, page: usize) -> bool
     ensures { result ≡ is_there g lun block page }
 {
-    rows_fit(g) & (lun < g.luns) & (block < g.blocks) & (page < g.pages)
+    rows_fit(g) && lun < g.luns && block < g.blocks && page < g.pages
 }
 
 fn power(w: u32) -> usize
@@ -46,7 +45,9 @@ fn power(w: u32) -> usize
     1usize << w
 }
 
-// The row of a page; where the part has no such page, a number that is no row.
+// The row of a page; where the part has no such page, a number that is no row, since the writer of jobs refuses it as too wide,
+// and C is given it (`nib_row_number`).
+#[tactic(auto, using(crate::proofs::Rows::small, crate::proofs::Rows::narrow_widths), unfolding(crate::specs::Places::row_of))]
 pub fn row_of(g: Geometry, lun: usize, block: usize, page: usize) -> usize
     ensures { result ≡ row_of g lun block page }
 {
@@ -59,24 +60,26 @@ pub fn row_of(g: Geometry, lun: usize, block: usize, page: usize) -> usize
     }
 }
 
-fn within(there: bool, of: Asks, number: usize, why: Wrong) -> Said
+fn within(there: bool, of: Option<Asks>, number: usize, why: Wrong) -> Said
     ensures { result ≡ ranged there of number why }
 {
-    pick_said(there, Said::Value { of, number }, Said::Wrong(why))
+    if there {
+        Said::Value { of, number }
+    } else {
+        Said::Wrong(why)
+    }
 }
 
 // A value of a job, on a part that has it or has not.
-fn value_on(g: Geometry, of: Asks, number: usize) -> Said
+fn value_on(g: Geometry, of: Option<Asks>, number: usize) -> Said
     ensures { result ≡ on_part g (said.Value of number) }
 {
     match of {
-        Asks::Nothing => Said::Value { of, number },
-        Asks::Lun => within(number < g.luns, of, number, Wrong::NoLun),
-        Asks::Block => within(number < g.blocks, of, number, Wrong::NoBlock),
-        Asks::Page => within(number < g.pages, of, number, Wrong::NoPage),
-        Asks::Column => within(number < page_size(g), of, number, Wrong::NoColumn),
-        Asks::Count => Said::Value { of, number },
-        Asks::Byte => Said::Value { of, number },
+        Some(Asks::Lun) => within(number < g.luns, of, number, Wrong::NoLun),
+        Some(Asks::Block) => within(number < g.blocks, of, number, Wrong::NoBlock),
+        Some(Asks::Page) => within(number < g.pages, of, number, Wrong::NoPage),
+        Some(Asks::Column) => within(number < page_size(g), of, number, Wrong::NoColumn),
+        None | Some(Asks::Count | Asks::Byte) => Said::Value { of, number },
     }
 }
 
@@ -85,15 +88,8 @@ pub fn on_part(g: Geometry, s: Said) -> Said
     ensures { result ≡ on_part g s }
 {
     match s {
-        Said::Nothing => s,
-        Said::Record { kind: _, value: _ } => s,
-        Said::Byte(_) => s,
-        Said::Outs(_) => s,
         Said::Value { of, number } => value_on(g, of, number),
-        Said::Wrong(_) => s,
-        Said::Accepted => s,
-        Said::Expected(_) => s,
-        Said::Refused(_) => s,
+        _ => s,
     }
 }
 
@@ -110,42 +106,37 @@ pub fn no_values() -> Values
 }
 
 // The values with one more. A LUN is the first of a new job's.
-pub fn stored(v: Values, of: Asks, number: usize) -> Values
+pub fn stored(v: Values, of: Option<Asks>, number: usize) -> Values
     ensures { result ≡ stored v of number }
 {
     match of {
-        Asks::Nothing => v,
-        Asks::Lun => {
-            let none = no_values();
-            Values {
-                lun: number,
-                ..none
-            }
-        }
-        Asks::Block => Values { block: number, ..v },
-        Asks::Page => Values { page: number, ..v },
-        Asks::Column => Values {
+        Some(Asks::Lun) => Values {
+            lun: number,
+            ..no_values()
+        },
+        Some(Asks::Block) => Values { block: number, ..v },
+        Some(Asks::Page) => Values { page: number, ..v },
+        Some(Asks::Column) => Values {
             column: number,
             ..v
         },
-        Asks::Count => Values { count: number, ..v },
-        Asks::Byte => v,
+        Some(Asks::Count) => Values { count: number, ..v },
+        None | Some(Asks::Byte) => v,
     }
 }
 
 // The job of these values.
-pub fn job_of(g: Geometry, f: First, v: Values) -> NamedJob
+pub fn job_of(g: Geometry, f: Option<First>, v: Values) -> Option<Job>
     ensures { result ≡ job_of g f v }
 {
     let row = row_of(g, v.lun, v.block, v.page);
-    let column = v.column;
-    let count = v.count;
+    let Values { column, count, .. } = v;
     match f {
-        First::Nothing => NamedJob::Nothing,
-        First::Read => NamedJob::One(Job::Read { column, row }),
-        First::ReadOut => NamedJob::One(Job::ReadOut { column, row, count }),
-        First::Program => NamedJob::One(Job::Program { column, row }),
-        First::Erase => NamedJob::One(Job::Erase { row }),
-        First::Status => NamedJob::One(Job::Status { row, count }),
+        None => None,
+        Some(First::Read) => Some(Job::Read { column, row }),
+        Some(First::ReadOut) => Some(Job::ReadOut { column, row, count }),
+        Some(First::Program) => Some(Job::Program { column, row }),
+        Some(First::Erase) => Some(Job::Erase { row }),
+        Some(First::Status) => Some(Job::Status { row, count }),
     }
 }

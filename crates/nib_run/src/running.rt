@@ -1,30 +1,22 @@
 // A trace as it comes, byte by byte: its replies as they are, or in words.
 use nib_args::May;
-use nib_explain::fold::{
-    Held, Run, carried, goes_out, held_next, joins, pick_run, run_number, run_of,
-};
+use nib_explain::fold::{Held, Run, carried, goes_out, held_next, joins, run_of};
 use nib_explain::tally::{Tally, tally};
 use nib_explain::words::{row_at, run_reply, run_words, status_reply, tally_words};
-use nib_files::files::Source;
-use nib_files::part::{
-    Array, Counts, Flags, Page, Part, Registers, load, power, refuse, run_on, store,
-};
-use nib_print::input::left;
-use nib_print::pen::{
-    Paper, Pen, To, begin, count, end_line, failed, flush, pad, put, ranked, text,
-};
-use nib_print::say::{event, lun_meant, power_sentence, reply, said};
+use nib_files::part::{Buffers, refuse};
+use nib_print::bytes::Bytes;
+use nib_print::pen::{Pen, To, Told, failed};
+use nib_print::say::lun_meant;
 use nib_text::reading::up;
-use power::PowerAnswer;
-use std::io::{Error, Read};
+use power::NotPowered;
+use std::io::Read;
 use target::commands::place_of;
-use target::picks::pick_number;
 use target::place::{is_open, put_out, shows_status};
-use target::views::{Given, RowGiven, completed};
+use target::views::{Given, completed};
 use target::{Event, Target};
 
 // The first bytes of a run, which its line shows.
-pub type Shown = [u8; 16];
+pub type Shown = Bytes<16>;
 
 // How a trace's replies are given.
 #[derive(Clone, Copy)]
@@ -38,554 +30,268 @@ pub enum Telling {
 }
 
 // How far a trace has come.
-#[derive(Clone, Copy)]
+#[derive(Drop)]
 pub struct Stream {
-    pub target: Target,
+    target: Target,
     pub pen: Pen,
-    // the replies in words
-    pub words: bool,
-    // each event in a line of its own
-    pub each: bool,
+    how: Telling,
     // how many records have come
-    pub number: usize,
-    // the first byte of a record has come, and this is it
-    pub half: bool,
-    pub first: u8,
-    // there may be more to come
-    pub going: bool,
+    number: usize,
+    // the first byte of a record that is not whole yet
+    half: Option<u8>,
     // what is held back of a run of data, its first bytes, and the number of its first record
-    pub held: Held,
-    pub shown: Shown,
-    pub begun: usize,
-    pub tally: Tally,
+    held: Held,
+    shown: Shown,
+    begun: usize,
+    tally: Tally,
 }
 
 fn nothing_held() -> Held {
     Held {
-        run: Run::Nothing,
+        run: None,
         byte: 0,
         count: 0,
     }
 }
 
-fn in_words(how: Telling) -> bool {
-    match how {
-        Telling::Replies => false,
-        Telling::Folded => true,
-        Telling::Each => true,
-    }
-}
-
-fn one_by_one(how: Telling) -> bool {
-    match how {
-        Telling::Replies => true,
-        Telling::Folded => false,
-        Telling::Each => true,
-    }
-}
-
-pub fn set_out(target: Target, pen: Pen, how: Telling) -> Stream {
-    let words = in_words(how);
-    let each = one_by_one(how);
-    let held = nothing_held();
-    let shown = [0u8; 16];
-    let tally = [0usize; 17];
-    Stream {
-        target,
-        pen,
-        words,
-        each,
-        number: 0,
-        half: false,
-        first: 0,
-        going: true,
-        held,
-        shown,
-        begun: 0,
-        tally,
-    }
-}
-
-// A whole row, after the address cycle that completes it.
-fn row_words(out: &mut Paper, p: Pen, t: Target, k: RowGiven) -> Pen {
-    let mut words = [0u8; 128];
-    let g = t.geometry;
-    let first = k.first;
-    let row = k.row;
-    let n = row_at(&mut words, 0, place_of(first), g, row.0);
-    let p = text(out, p, b"  ");
-    said(out, p, &words, n)
-}
-
-fn row_if(out: &mut Paper, p: Pen, t: Target, e: Event) -> Pen {
-    if !(e.kind == 1) {
-        return p;
-    }
-    let d = t.decoder;
-    let s = d.sequence;
-    match completed(s, e.value) {
-        Given::Nothing => p,
-        Given::Column(_) => p,
-        Given::Row(k) => row_words(out, p, t, k),
-        Given::Single(_) => p,
-    }
-}
-
-fn row_unless(out: &mut Paper, p: Pen, odd: bool, t: Target, e: Event) -> Pen {
-    if odd { p } else { row_if(out, p, t, e) }
-}
-
-fn status_words(out: &mut Paper, p: Pen, b: u8) -> Pen {
-    let mut words = [0u8; 128];
-    let n = status_reply(&mut words, 0, b);
-    said(out, p, &words, n)
-}
-
-// A line: the record's number, the event, the answer.
-fn line(
-    out: &mut Paper,
-    p: Pen,
-    number: usize,
-    odd: bool,
-    e: Event,
-    room: [u8; 2],
-    t: Target,
-) -> Pen {
-    let d = t.decoder;
-    let s = d.sequence;
-    let p = ranked(out, p, number);
-    let p = text(out, p, b"  ");
-    let p = event(out, p, odd, e.kind, e.value, is_open(s));
-    let p = row_unless(out, p, odd, t, e);
-    let p = pad(out, p, 43);
-    let p = answer(out, p, e, room, t);
-    end_line(out, p)
-}
-
-fn answer(out: &mut Paper, p: Pen, e: Event, room: [u8; 2], t: Target) -> Pen {
-    let d = t.decoder;
-    if (room[0] == 1) & shows_status(put_out(d)) {
-        status_words(out, p, room[1])
-    } else {
-        reply(out, p, room[0], room[1], lun_meant(t, e))
-    }
-}
-
-// What is held back, as one line: the number of the run's first record, its cycles, their replies.
-fn run_line(out: &mut Paper, p: Pen, h: Held, shown: Shown, begun: usize) -> Pen {
-    shown_line(out, p, h, &shown, begun)
-}
-
-fn shown_line(out: &mut Paper, p: Pen, h: Held, shown: &[u8], begun: usize) -> Pen {
-    let mut words = [0u8; 128];
-    let k = count(h.count, shown);
-    let p = ranked(out, p, begun);
-    let p = text(out, p, b"  ");
-    let n = run_words(&mut words, 0, h, &shown[..k]);
-    let p = said(out, p, &words, n);
-    let p = pad(out, p, 43);
-    let n = run_reply(&mut words, 0, h, &shown[..k]);
-    let p = said(out, p, &words, n);
-    end_line(out, p)
-}
-
-fn let_out(out: &mut Paper, s: Stream, goes: bool) -> Stream {
-    if !goes {
-        return s;
-    }
-    let p = s.pen;
-    let h = s.held;
-    let shown = s.shown;
-    let pen = run_line(out, p, h, shown, s.begun);
-    let held = nothing_held();
-    Stream { pen, held, ..s }
-}
-
-// What is held back after a cycle of a run.
-fn hold(s: Stream, number: usize, run: Run, b: u8) -> Stream {
-    let h = s.held;
-    let joined = joins(h, run, b);
-    let begun = pick_number(joined, s.begun, number);
-    let place = pick_number(joined, h.count, 0);
-    let mut shown = s.shown;
-    if place < 16 {
-        shown[place] = b;
-    }
-    let held = held_next(h, run, b);
-    Stream {
-        held,
-        shown,
-        begun,
-        ..s
-    }
-}
-
-fn counted(from: Tally, room: [u8; 2]) -> Tally {
-    let mut counts = from;
-    tally(&mut counts, room[0], room[1]);
-    counts
-}
-
-fn with_counted(s: Stream, room: [u8; 2]) -> Stream {
-    let counts = s.tally;
-    let tally = counted(counts, room);
-    Stream { tally, ..s }
-}
-
-fn told_alone(
-    out: &mut Paper,
-    s: Stream,
-    number: usize,
-    odd: bool,
-    e: Event,
-    room: [u8; 2],
-) -> Stream {
-    let p = s.pen;
-    let t = s.target;
-    let pen = line(out, p, number, odd, e, room, t);
-    Stream { pen, ..s }
-}
-
-// An event in words: at once, or held back as a cycle of a run. What was held back before it and doesn't go on goes out first.
-fn explained(
-    out: &mut Paper,
-    s: Stream,
-    number: usize,
-    odd: bool,
-    e: Event,
-    room: [u8; 2],
-) -> Stream {
-    let t = s.target;
-    let d = t.decoder;
-    let status = shows_status(put_out(d));
-    let run = pick_run(s.each, Run::Nothing, run_of(e.kind, room[0], status));
-    let b = carried(e.kind, e.value, room[1]);
-    let h = s.held;
-    let s = let_out(out, s, goes_out(h, run, b));
-    let s = with_counted(s, room);
-    if run_number(run) == 0 {
-        told_alone(out, s, number, odd, e, room)
-    } else {
-        hold(s, number, run, b)
-    }
-}
-
-fn replied(
-    out: &mut Paper,
-    s: Stream,
-    number: usize,
-    odd: bool,
-    e: Event,
-    room: [u8; 2],
-) -> Stream {
-    if s.words {
-        return explained(out, s, number, odd, e, room);
-    }
-    let p = s.pen;
-    let p = put(out, p, room[0]);
-    let pen = put(out, p, room[1]);
-    Stream { pen, ..s }
-}
-
-// What is held back goes out.
-fn drained(out: &mut Paper, s: Stream) -> Stream {
-    let h = s.held;
-    let_out(out, s, 0 < h.count)
-}
-
-fn tally_line(out: &mut Paper, p: Pen, events: usize, counts: Tally) -> Pen {
-    let mut words = [0u8; 512];
-    let n = tally_words(&mut words, 0, events, &counts);
-    let n = count(n, &words);
-    let p = text(out, p, &words[..n]);
-    end_line(out, p)
-}
-
-// The end of a trace that is told in words: what is held back, and the tally.
-fn ended(out: &mut Paper, s: Stream) -> Stream {
-    if !s.words {
-        return s;
-    }
-    let s = drained(out, s);
-    let p = s.pen;
-    let counts = s.tally;
-    let pen = tally_line(out, p, s.number, counts);
-    Stream { pen, ..s }
-}
-
-// A whole record.
-fn record(
-    s: Stream,
-    value: u8,
-    out: &mut Paper,
-    part: Part,
-    page: &Page,
-    array: &mut Array,
-    registers: &mut Registers,
-    counts: &mut Counts,
-    flags: &Flags,
-) -> Stream {
-    let kind = s.first;
-    let records = [kind, value];
-    let mut room = [0u8; 2];
-    let t = s.target;
-    let target = run_on(
-        t, part, &records, &mut room, page, array, registers, counts, flags,
-    );
-    let number = up(s.number);
-    let e = Event { kind, value };
-    let s = replied(out, s, number, false, e, room);
-    Stream {
-        target,
-        number,
-        half: false,
-        first: 0,
-        ..s
-    }
-}
-
-// The odd last byte, where there is one.
-fn odd_byte(
-    s: Stream,
-    out: &mut Paper,
-    part: Part,
-    page: &Page,
-    array: &mut Array,
-    registers: &mut Registers,
-    counts: &mut Counts,
-    flags: &Flags,
-) -> Stream {
-    if !s.half {
-        return s;
-    }
-    let records = [s.first];
-    let mut room = [0u8; 2];
-    let t = s.target;
-    let target = run_on(
-        t, part, &records, &mut room, page, array, registers, counts, flags,
-    );
-    let number = up(s.number);
-    let e = Event {
-        kind: s.first,
-        value: 0,
-    };
-    let s = replied(out, s, number, true, e, room);
-    Stream {
-        target,
-        number,
-        half: false,
-        ..s
-    }
-}
-
-fn byte(
-    s: Stream,
-    b: u8,
-    out: &mut Paper,
-    part: Part,
-    page: &Page,
-    array: &mut Array,
-    registers: &mut Registers,
-    counts: &mut Counts,
-    flags: &Flags,
-) -> Stream {
-    if s.half {
-        record(s, b, out, part, page, array, registers, counts, flags)
-    } else {
+impl Stream {
+    pub fn new(target: Target, pen: Pen, how: Telling) -> Stream {
         Stream {
-            half: true,
-            first: b,
-            ..s
+            target,
+            pen,
+            how,
+            number: 0,
+            half: None,
+            held: nothing_held(),
+            shown: Bytes::new(),
+            begun: 0,
+            tally: [0; 17],
+        }
+    }
+
+    // A whole row, after the address cycle that completes it.
+    fn row_words(&mut self, e: Event) {
+        if e.kind != 1 {
+            return;
+        }
+        let t = self.target;
+        if let Some(Given::Row(k)) = completed(t.decoder.sequence, e.value) {
+            let first = place_of(k.first);
+            self.pen.text(b"  ");
+            self.pen
+                .words(|desk| row_at(desk, first, t.geometry, k.row.0));
+        }
+    }
+
+    fn answer(&mut self, e: Event, room: [u8; 2]) {
+        let t = self.target;
+        if room[0] == 1 && shows_status(put_out(t.decoder)) {
+            self.pen.words(|desk| status_reply(desk, room[1]));
+        } else {
+            self.pen.reply(room[0], room[1], lun_meant(t, e));
+        }
+    }
+
+    // A line: the record's number, the event, the answer.
+    fn line(&mut self, odd: bool, e: Event, room: [u8; 2]) {
+        let inside = is_open(self.target.decoder.sequence);
+        self.pen.ranked(self.number);
+        self.pen.text(b"  ");
+        self.pen.event(odd, e.kind, e.value, inside);
+        if !odd {
+            self.row_words(e);
+        }
+        self.pen.pad(43);
+        self.answer(e, room);
+        self.pen.end_line();
+    }
+
+    // What is held back goes out, as one line: the number of the run's first record, its cycles, their replies.
+    fn let_out(&mut self) {
+        let held = self.held;
+        let bytes = self.shown.as_slice();
+        self.pen.ranked(self.begun);
+        self.pen.text(b"  ");
+        self.pen.words(|desk| run_words(desk, held, bytes));
+        self.pen.pad(43);
+        self.pen.words(|desk| run_reply(desk, held, bytes));
+        self.pen.end_line();
+        self.held = nothing_held();
+    }
+
+    // What is held back after a cycle of a run.
+    fn hold(&mut self, run: Option<Run>, b: u8) {
+        if !joins(self.held, run, b) {
+            self.begun = self.number;
+            self.shown.clear();
+        }
+        self.shown.push(b);
+        self.held = held_next(self.held, run, b);
+    }
+
+    // An event in words: at once, or held back as a cycle of a run. What was held back before it and doesn't go on goes out first.
+    fn explained(&mut self, odd: bool, e: Event, room: [u8; 2]) {
+        let status = shows_status(put_out(self.target.decoder));
+        let run = match self.how {
+            Telling::Folded => run_of(e.kind, room[0], status),
+            _ => None,
+        };
+        let b = carried(e.kind, e.value, room[1]);
+        if goes_out(self.held, run, b) {
+            self.let_out();
+        }
+        tally(&mut self.tally, room[0], room[1]);
+        if run.is_none() {
+            self.line(odd, e, room);
+        } else {
+            self.hold(run, b);
+        }
+    }
+
+    // A whole record, or the odd last byte, and its reply. An event is told by the target that it comes to.
+    fn record(&mut self, records: &[u8], odd: bool, e: Event, part: &mut Buffers<'_>) {
+        let mut room = [0u8; 2];
+        let next = part.run(self.target, records, &mut room);
+        self.number = up(self.number);
+        match self.how {
+            Telling::Replies => self.pen.text(&room),
+            _ => self.explained(odd, e, room),
+        }
+        self.target = next;
+    }
+
+    fn byte(&mut self, b: u8, part: &mut Buffers<'_>) {
+        match self.half {
+            None => self.half = Some(b),
+            Some(kind) => {
+                self.half = None;
+                self.record(&[kind, b], false, Event { kind, value: b }, part);
+            }
+        }
+    }
+
+    pub fn bytes(&mut self, chunk: &[u8], part: &mut Buffers<'_>) {
+        for &b in chunk {
+            self.byte(b, part);
+        }
+    }
+
+    // The odd last byte, where there is one.
+    fn odd_byte(&mut self, part: &mut Buffers<'_>) {
+        if let Some(kind) = self.half {
+            self.half = None;
+            self.record(&[kind], true, Event { kind, value: 0 }, part);
+        }
+    }
+
+    // What is held back goes out.
+    fn drain(&mut self) {
+        if 0 < self.held.count {
+            self.let_out();
+        }
+    }
+
+    // The end of a trace that is told in words: what is held back, and the tally.
+    fn end(&mut self) {
+        if matches!(self.how, Telling::Replies) {
+            return;
+        }
+        self.drain();
+        let events = self.number;
+        let counts = self.tally;
+        self.pen.words(|desk| tally_words(desk, events, &counts));
+        self.pen.end_line();
+    }
+
+    // The trace of an input, what it has at hand at a time. An error, where not all of it was read, or not every reply written.
+    // Not one loop with `nib_translate::texts::to_text`: what each does with an error and at the end is all of it. It ends with the input,
+    // which has no length to count to.
+    fn input<R: Read>(
+        &mut self,
+        rt: HostRuntime,
+        input: &mut R,
+        part: &mut Buffers<'_>,
+    ) -> Result<(), Told> {
+        for _ in 0..u64::MAX {
+            let mut chunk = [0u8; 4096];
+            match input.read(&mut chunk) {
+                Err(e) => {
+                    self.drain();
+                    self.pen.flush();
+                    return Err(failed(rt, b"standard input", &e));
+                }
+                Ok(0) => {
+                    self.odd_byte(part);
+                    self.end();
+                    self.pen.flush();
+                    break;
+                }
+                Ok(n) => {
+                    self.bytes(&chunk[..n], part);
+                    self.pen.flush();
+                }
+            }
+            if !self.pen.is_good() {
+                break;
+            }
+        }
+        if self.pen.is_good() {
+            Ok(())
+        } else {
+            Err(Told)
         }
     }
 }
 
-pub fn bytes(
-    s: Stream,
-    chunk: &[u8],
-    out: &mut Paper,
-    part: Part,
-    page: &Page,
-    array: &mut Array,
-    registers: &mut Registers,
-    counts: &mut Counts,
-    flags: &Flags,
-) -> Stream {
-    let mut at = s;
-    let mut i: usize = 0;
-    while i < chunk.len() {
-        at = byte(
-            at, chunk[i], out, part, page, array, registers, counts, flags,
-        );
-        i += 1;
+// Power-on told in words. Whether they were written.
+fn tell_power(rt: HostRuntime, on: Result<Target, NotPowered>) -> bool {
+    let mut pen = Pen::new(rt, To::Output);
+    pen.text(b"power-on ");
+    match on {
+        Ok(_) => pen.text(b"accepted"),
+        Err(e) => pen.power_sentence(e.why),
     }
-    at
+    pen.end_line();
+    pen.flush();
+    pen.is_good()
 }
 
-fn flushed(s: Stream, out: &Paper, more: bool) -> Stream {
-    let p = s.pen;
-    let pen = flush(out, p);
-    let going = more & pen.good;
-    Stream { pen, going, ..s }
-}
-
-// An input that can't be read: what is held back goes out before the error, and nothing is stored.
-fn unread(rt: HostRuntime, s: Stream, out: &mut Paper, e: &Error) -> Stream {
-    let s = drained(out, s);
-    let p = s.pen;
-    let p = flush(out, p);
-    failed(rt, b"standard input", e);
-    let pen = Pen { good: false, ..p };
-    Stream {
-        pen,
-        going: false,
-        ..s
-    }
-}
-
-// What the input has at hand, and its replies.
-fn turn(
+// Power-on, told in words; where replies are bytes, only a refused one is told, as an error, and the trace is not run.
+fn powered(
     rt: HostRuntime,
-    s: Stream,
-    input: &mut Source,
-    out: &mut Paper,
-    part: Part,
-    page: &Page,
-    array: &mut Array,
-    registers: &mut Registers,
-    counts: &mut Counts,
-    flags: &Flags,
-) -> Stream {
-    let mut chunk = [0u8; 4096];
-    match input.read(&mut chunk) {
-        Err(e) => unread(rt, s, out, &e),
-        Ok(0) => {
-            let s = odd_byte(s, out, part, page, array, registers, counts, flags);
-            let s = ended(out, s);
-            flushed(s, out, false)
-        }
-        Ok(n) => {
-            let s = bytes(
-                s,
-                &chunk[..n],
-                out,
-                part,
-                page,
-                array,
-                registers,
-                counts,
-                flags,
-            );
-            flushed(s, out, true)
-        }
-    }
-}
-
-fn whole_input(
-    rt: HostRuntime,
-    from: Stream,
-    input: &mut Source,
-    out: &mut Paper,
-    part: Part,
-    page: &Page,
-    array: &mut Array,
-    registers: &mut Registers,
-    counts: &mut Counts,
-    flags: &Flags,
-) -> Stream {
-    let mut s = from;
-    let mut turns: u64 = 18446744073709551615;
-    while 0 < turns {
-        s = turn(
-            rt, s, input, out, part, page, array, registers, counts, flags,
-        );
-        turns = left(turns, s.going);
-    }
-    s
-}
-
-// The trace of standard input. Whether all of it was read and every reply written.
-fn ran(
-    rt: HostRuntime,
-    t: Target,
+    dir: &[u8],
     how: Telling,
-    input: &mut Source,
-    out: &mut Paper,
-    part: Part,
-    page: &Page,
-    array: &mut Array,
-    registers: &mut Registers,
-    counts: &mut Counts,
-    flags: &Flags,
-) -> bool {
-    let s = set_out(t, begin(rt, To::Output), how);
-    let s = whole_input(
-        rt, s, input, out, part, page, array, registers, counts, flags,
-    );
-    let p = s.pen;
-    p.good
-}
-
-fn power_words(out: &mut Paper, p: Pen, answer: PowerAnswer) -> Pen {
-    match answer {
-        PowerAnswer::Accepted => text(out, p, b"accepted"),
-        PowerAnswer::Refused(why) => power_sentence(out, p, why),
+    part: &mut Buffers<'_>,
+) -> Result<Target, Told> {
+    let on = part.power();
+    if matches!(how, Telling::Replies) {
+        return on.map_err(|e| refuse(rt, dir, e.why));
     }
-}
-
-fn tell_power(out: &mut Paper, p: Pen, answer: PowerAnswer) -> Pen {
-    let p = text(out, p, b"power-on ");
-    let p = power_words(out, p, answer);
-    end_line(out, p)
-}
-
-// Power-on told in words; where replies are bytes, only a refused one is told, as an error. Whether the trace is to be run.
-fn goes_on(rt: HostRuntime, out: &mut Paper, dir: &[u8], words: bool, answer: PowerAnswer) -> bool {
-    if words {
-        let p = begin(rt, To::Output);
-        let p = tell_power(out, p, answer);
-        let p = flush(out, p);
-        return p.good;
+    if !tell_power(rt, on) {
+        return Err(Told);
     }
-    match answer {
-        PowerAnswer::Accepted => true,
-        PowerAnswer::Refused(why) => {
-            refuse(rt, dir, why);
-            false
-        }
+    match on {
+        Ok(target) => Ok(target),
+        Err(e) => Ok(e.target),
     }
 }
 
 // `nib run` and, in words, `nib explain`. Only what was powered, read to its end and answered whole is stored, and by a command
 // that may store alone.
-pub fn on_folder(
+pub fn on_folder<R: Read>(
     rt: HostRuntime,
     dir: &[u8],
     may: May,
     how: Telling,
-    input: &mut Source,
-    out: &mut Paper,
-    page: &mut Page,
-    array: &mut Array,
-    registers: &mut Registers,
-    counts: &mut Counts,
-    flags: &mut Flags,
-) {
-    let part = load(rt, dir, page, array, counts, flags);
-    if !part.good {
-        return;
+    input: &mut R,
+    part: &mut Buffers<'_>,
+) -> Result<(), Told> {
+    part.load(rt, dir)?;
+    let target = powered(rt, dir, how, part)?;
+    let mut stream = Stream::new(target, Pen::new(rt, To::Output), how);
+    stream.input(rt, input, part)?;
+    if may.store {
+        part.store(rt, dir);
     }
-    let on = power(part, page, array, registers, counts, flags);
-    let answer = on.answer;
-    let t = on.target;
-    if !goes_on(rt, out, dir, in_words(how), answer) {
-        return;
-    }
-    let good = ran(
-        rt, t, how, input, out, part, page, array, registers, counts, flags,
-    );
-    if good & may.store {
-        let l = part.lengths;
-        store(rt, dir, l, array, registers, counts);
-    }
+    Ok(())
 }

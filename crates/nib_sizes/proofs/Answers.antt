@@ -14,19 +14,18 @@ use Rattle.target.specs.Pick.{pick}
 use Rattle.target.specs.Sizes.{page_size, sized}
 use Rattle.target.specs.declared.Geometry.{Geometry}
 use Rattle.power.specs.declared.PowerRefusal.{PowerRefusal}
-use Rattle.power.specs.declared.PowerAnswer.TheVariants as answer
 use Rattle.power.specs.Power.{geometry_of, wrong_length, unsigned, crc_bad, field_bad, buffer_bad, content_bad, power_answer}
 use Rattle.power.proofs.Answers as power
 use Rattle.nib_sizes.specs.declared.Lengths.{Lengths}
-use Rattle.nib_sizes.specs.declared.Known.{Known}
-use Rattle.nib_sizes.specs.declared.Known.TheVariants as known
-use Rattle.nib_sizes.specs.declared.Plan.TheVariants.{Sizes, Refused, TooLarge}
+use Rattle.nib_sizes.specs.declared.Unplanned.{Unplanned}
+use Rattle.nib_sizes.specs.declared.Unplanned.TheVariants.{Refused, TooLarge}
+use Rattle.std.specs.Prelude.{Result, Ok, Err}
 use Rattle.nib_sizes.specs.Folder.{lengths_of, planned, plan_for, known_of, plan_of, answer_on, Agrees}
 
-pub here : {p : Known} (b : Bool) (x y : Known) → b ≡ true → p ≡ x → p ≡ pick b x y
+pub here : {p : Result Geometry PowerRefusal} (b : Bool) (x y : Result Geometry PowerRefusal) → b ≡ true → p ≡ x → p ≡ pick b x y
 here b x y h e = rw (h) e
 
-pub later : {p : Known} (b : Bool) (x y : Known) → b ≡ false → p ≡ y → p ≡ pick b x y
+pub later : {p : Result Geometry PowerRefusal} (b : Bool) (x y : Result Geometry PowerRefusal) → b ≡ false → p ≡ y → p ≡ pick b x y
 later b x y h e = rw (h) e
 
 -- no count and no flag set
@@ -58,7 +57,7 @@ content : (page : List ℕ) → not (all_at_most (programs_a_page page) (zeros (
 content page = rw (unset (programs_a_page page) (lengths_of (geometry_of page)).counts, unset 1 (lengths_of (geometry_of page)).flags)
 
 -- what the first four rules let pass is accepted on a folder of the page's lengths
-fine : (page : List ℕ) → wrong_length page ≡ false → unsigned page ≡ false → crc_bad page ≡ false → field_bad page ≡ false → answer_on page (lengths_of (geometry_of page)) ≡ answer.Accepted
+fine : (page : List ℕ) → wrong_length page ≡ false → unsigned page ≡ false → crc_bad page ≡ false → field_bad page ≡ false → answer_on page (lengths_of (geometry_of page)) ≡ Ok tt
 unfolding answer_on power_answer buffer_bad content_bad zeros
 fine page a b c d =
     sym
@@ -70,16 +69,16 @@ fine page a b c d =
     (power.later _ _ _ (content page) refl))))))
 
 -- along the picks of the plan
-along : (page : List ℕ) (b : Bool) (r : PowerRefusal) (k : Known) → (b ≡ true → Agrees page (Refused r)) → (b ≡ false → Agrees page (plan_for k)) → Agrees page (plan_for (pick b (known.Refused r) k))
+along : (page : List ℕ) (b : Bool) (r : PowerRefusal) (k : Result Geometry PowerRefusal) → (b ≡ true → Agrees page (Err (Refused r))) → (b ≡ false → Agrees page (plan_for k)) → Agrees page (plan_for (pick b (Err r) k))
 along page true r k h l = h refl
 along page false r k h l = l refl
 
-sizes : (page : List ℕ) (b : Bool) (l : Lengths) → answer_on page l ≡ answer.Accepted → Agrees page (pick b (TooLarge l) (Sizes l))
+sizes : (page : List ℕ) (b : Bool) (l : Lengths) → answer_on page l ≡ Ok tt → Agrees page (pick b (Err (TooLarge l)) (Ok l))
 sizes page true l h = h
 sizes page false l h = h
 
 pub agrees : (page : List ℕ) → Agrees page (plan_of page)
-unfolding plan_of known_of planned power_answer
+unfolding power_answer
 agrees page =
     along page (wrong_length page) _ _ (λ a array registers counts flags. sym (power.here _ _ _ a)) (λ a.
     along page (unsigned page) _ _ (λ b array registers counts flags. sym (power.later _ _ _ a (power.here _ _ _ b))) (λ b.

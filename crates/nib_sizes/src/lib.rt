@@ -4,6 +4,7 @@
 ghost use Rattle.std.specs.Prelude.{◌≡◌, true};
 ghost use Rattle.target.specs.Sizes.{in_limits};
 ghost use Rattle.nib_sizes.specs.Folder.{lengths_of, planned, known_of, Limited, plan_of};
+ghost use Rattle.nib_sizes.specs.declared.Unplanned.TheVariants.{Refused};
 
 use page::limits::{crc_good, fields_in_limits, is_signed};
 use power::{PowerRefusal, geometry_of};
@@ -18,21 +19,21 @@ pub struct Lengths {
     pub flags: usize,
 }
 
-// What a page says of its part.
+// Why nib holds no part of a page.
 #[derive(Clone, Copy)]
-pub enum Known {
-    Part(Geometry),
+pub enum Unplanned {
     // what power-on refuses whatever the buffers are: 20 to 23
-    Refused(PowerRefusal),
-}
-
-// What a page says of its folder.
-#[derive(Clone, Copy)]
-pub enum Plan {
-    Sizes(Lengths),
     Refused(PowerRefusal),
     // an array of more than 4 MiB, which a program with no heap doesn't hold
     TooLarge(Lengths),
+}
+
+impl From<PowerRefusal> for Unplanned {
+    ghost from_gives = { λ why made. made ≡ Refused why };
+
+    fn from(why: PowerRefusal) -> Unplanned {
+        Unplanned::Refused(why)
+    }
 }
 
 // The lengths that a geometry gives.
@@ -51,42 +52,39 @@ pub fn lengths_of(g: Geometry) -> Lengths
     }
 }
 
-pub fn planned(l: Lengths) -> Plan
+pub fn planned(l: Lengths) -> Result<Lengths, Unplanned>
     ensures { result ≡ planned l }
 {
     if 4194304 < l.array {
-        Plan::TooLarge(l)
+        Err(Unplanned::TooLarge(l))
     } else {
-        Plan::Sizes(l)
+        Ok(l)
     }
 }
 
 // The part that a page describes.
-pub fn known_part(page: &[u8]) -> Known
+#[tactic(auto, using(power::proofs::Answers::limited), unfolding(power::specs::Power::wrong_length, power::specs::Power::unsigned, power::specs::Power::crc_bad, power::specs::Power::field_bad))]
+pub fn known_part(page: &[u8]) -> Result<Geometry, PowerRefusal>
     ensures value { result ≡ known_of page.now }
     ensures limited { Limited result }
 {
-    if !(page.len() == 256) {
-        return Known::Refused(PowerRefusal::PageLength);
+    if page.len() != 256 {
+        return Err(PowerRefusal::PageLength);
     }
     if !is_signed(page) {
-        return Known::Refused(PowerRefusal::Signature);
+        return Err(PowerRefusal::Signature);
     }
     if !crc_good(page) {
-        return Known::Refused(PowerRefusal::Crc);
+        return Err(PowerRefusal::Crc);
     }
     if !fields_in_limits(page) {
-        return Known::Refused(PowerRefusal::Field);
+        return Err(PowerRefusal::Field);
     }
-    Known::Part(geometry_of(page))
+    Ok(geometry_of(page))
 }
 
-pub fn plan_of(page: &[u8]) -> Plan
+pub fn plan_of(page: &[u8]) -> Result<Lengths, Unplanned>
     ensures { result ≡ plan_of page.now }
 {
-    let k = known_part(page);
-    match k {
-        Known::Part(g) => planned(lengths_of(g)),
-        Known::Refused(why) => Plan::Refused(why),
-    }
+    planned(lengths_of(known_part(page)?))
 }

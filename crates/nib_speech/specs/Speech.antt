@@ -1,9 +1,9 @@
 -- How far a text or a trace has come, as one number, and what a byte of a text says, as one number. 0 is where both begin.
-use Rattle.std.specs.Prelude.{ℕ, ◌+◌, ◌-◌, ◌*◌, ◌/◌, ◌%◌, Bool, true, false, ◌&&◌, not, eqb, ltb}
-use Rattle.target.specs.Pick.{pick}
+use Rattle.std.specs.Prelude.{ℕ, ◌≡◌, List, ◌+◌, ◌-◌, ◌*◌, ◌/◌, ◌%◌, Bool, true, false, ◌&&◌, not, eqb, ltb, if◌then◌else◌, Option, Some, None, is_some, unwrap_or}
 use Rattle.target.specs.declared.Geometry.{Geometry}
 use Rattle.jobs.specs.declared.reading.First.{First}
 use Rattle.jobs.specs.declared.reading.First.TheVariants as first
+use Rattle.nib_words.specs.Desk.{Desk, wrote}
 use Rattle.nib_places.specs.Places.{on_part}
 use Rattle.nib_text.specs.JobWords.{job_number, asks_number}
 use Rattle.nib_text.specs.declared.job_words.Asks.{Asks}
@@ -12,7 +12,7 @@ use Rattle.nib_text.specs.Kinds.{kind_number}
 use Rattle.nib_text.specs.Reading.{next_of, is_gap}
 use Rattle.nib_text.specs.Writing.{wrote_next}
 use Rattle.nib_text.specs.declared.Kind.{Kind}
-use Rattle.nib_text.specs.declared.Kind.TheVariants.{Nothing, Command, Address, DataIn, DataOut, Finish, Protect, Raw, Bytes, Refusal, Accepted}
+use Rattle.nib_text.specs.declared.Kind.TheVariants.{Command, Address, DataIn, DataOut, Finish, Protect, Raw, Bytes, Refusal, Accepted}
 use Rattle.nib_text.specs.declared.reading.Reading.{Reading}
 use Rattle.nib_text.specs.declared.reading.Wrong.{Wrong}
 use Rattle.nib_text.specs.declared.reading.Wrong.TheVariants as wrong
@@ -24,47 +24,51 @@ use Rattle.nib_text.specs.declared.writing.Writing.{Writing}
 abbrev pub version_number : ℕ
 version_number = 1537
 
+-- words put down on a lent slice from its beginning: what lies there then, and how many of its bytes are the words'
+abbrev pub Says : List ℕ → List ℕ → ℕ → List ℕ → Type 0
+Says old new n words = ◌≡◌ {A = Desk} (record { room = new; at = n }) (wrote (record { room = old; at = 0 }) words)
+
 abbrev pub bit : Bool → ℕ
 bit true = 1
 bit false = 0
 
-unfoldable pub kind_of : ℕ → Kind
+abbrev pub kind_of : ℕ → Option Kind
 kind_of n =
-    pick (eqb n 1) Command
-    (pick (eqb n 2) Address
-    (pick (eqb n 3) DataIn
-    (pick (eqb n 4) DataOut
-    (pick (eqb n 5) Finish
-    (pick (eqb n 6) Protect
-    (pick (eqb n 7) Raw
-    (pick (eqb n 8) Bytes
-    (pick (eqb n 9) Refusal
-    (pick (eqb n 10) Accepted
-    Nothing)))))))))
+    if eqb n 1 then Some Command
+    else (if eqb n 2 then Some Address
+    else (if eqb n 3 then Some DataIn
+    else (if eqb n 4 then Some DataOut
+    else (if eqb n 5 then Some Finish
+    else (if eqb n 6 then Some Protect
+    else (if eqb n 7 then Some Raw
+    else (if eqb n 8 then Some Bytes
+    else (if eqb n 9 then Some Refusal
+    else (if eqb n 10 then Some Accepted
+    else None)))))))))
 
-unfoldable pub first_of : ℕ → First
+abbrev pub first_of : ℕ → Option First
 first_of n =
-    pick (eqb n 1) first.Read
-    (pick (eqb n 2) first.ReadOut
-    (pick (eqb n 3) first.Program
-    (pick (eqb n 4) first.Erase
-    (pick (eqb n 5) first.Status
-    first.Nothing))))
+    if eqb n 1 then Some first.Read
+    else (if eqb n 2 then Some first.ReadOut
+    else (if eqb n 3 then Some first.Program
+    else (if eqb n 4 then Some first.Erase
+    else (if eqb n 5 then Some first.Status
+    else None))))
 
-unfoldable pub asks_of : ℕ → Asks
+abbrev pub asks_of : ℕ → Option Asks
 asks_of n =
-    pick (eqb n 1) asks.Lun
-    (pick (eqb n 2) asks.Block
-    (pick (eqb n 3) asks.Page
-    (pick (eqb n 4) asks.Column
-    (pick (eqb n 5) asks.Count
-    (pick (eqb n 6) asks.Byte
-    asks.Nothing)))))
+    if eqb n 1 then Some asks.Lun
+    else (if eqb n 2 then Some asks.Block
+    else (if eqb n 3 then Some asks.Page
+    else (if eqb n 4 then Some asks.Column
+    else (if eqb n 5 then Some asks.Count
+    else (if eqb n 6 then Some asks.Byte
+    else None)))))
 
 -- from the lowest bit on: comment, due, no hex digits, no decimal digits, 2 bits the word's length, 8 its first byte, 8 its last
 -- two as hex digits, 20 its number, 3 that are 0, whether a part is given, 6 how much of a job's word or of ok it is, 3 how many
 -- of the job's values have come, 3 the job, 4 the letter
-unfoldable pub reading_of : ℕ → Reading
+abbrev pub reading_of : ℕ → Reading
 reading_of n = record {
   comment = eqb (n % 2) 1;
   kind = kind_of (n / 288230376151711744);
@@ -83,7 +87,7 @@ reading_of n = record {
   got = n / 4503599627370496 % 8;
 }
 
-unfoldable pub reading_number : Reading → ℕ
+abbrev pub reading_number : Reading → ℕ
 reading_number r =
     bit r.comment + bit r.due * 2 + bit (not r.word.hexed) * 4 + bit (not r.word.numbered) * 8
     + r.word.length * 16 + r.word.first * 64 + r.word.hex * 16384 + r.word.number % 1048576 * 4194304
@@ -117,24 +121,29 @@ said_number said.Accepted = 720896
 said_number (said.Expected b) = 786432 + b
 said_number (said.Refused n) = 851968 + n
 
-unfoldable pub writing_of : ℕ → Writing
-writing_of n = record { half = eqb (n % 2) 1; first = n / 32 % 256; line = kind_of (n / 2 % 16); many = n / 8192 }
+-- from the lowest bit on: whether the first byte of a record has come, 4 bits the letter, 8 that byte, the rest how many values
+abbrev pub writing_of : ℕ → Writing
+writing_of n = record {
+  half = if eqb (n % 2) 1 then Some (n / 32 % 256) else None;
+  line = kind_of (n / 2 % 16);
+  many = n / 8192;
+}
 
-unfoldable pub writing_number : Writing → ℕ
-writing_number w = bit w.half + kind_number w.line * 2 + w.first * 32 + w.many % 65536 * 8192
+abbrev pub writing_number : Writing → ℕ
+writing_number w = bit (is_some w.half) + kind_number w.line * 2 + unwrap_or w.half 0 * 32 + w.many % 65536 * 8192
 
-unfoldable pub text_next : ℕ → ℕ → ℕ
+abbrev pub text_next : ℕ → ℕ → ℕ
 text_next s b = reading_number (next_of (reading_of s) b).reading
 
-unfoldable pub text_said : ℕ → ℕ → ℕ
+abbrev pub text_said : ℕ → ℕ → ℕ
 text_said s b = said_number (next_of (reading_of s) b).said
 
 -- the job that ends with the byte
-unfoldable pub text_job : ℕ → ℕ → ℕ
+abbrev pub text_job : ℕ → ℕ → ℕ
 text_job s b = job_number (next_of (reading_of s) b).whole
 
 -- whether a list of expected bytes ends with the byte
-unfoldable pub text_listed : ℕ → ℕ → ℕ
+abbrev pub text_listed : ℕ → ℕ → ℕ
 text_listed s b = bit (next_of (reading_of s) b).listed
 
 -- a part by its sizes; columns are the page size P
@@ -142,13 +151,13 @@ abbrev pub sizes : ℕ → ℕ → ℕ → ℕ → Geometry
 sizes luns blocks pages columns = record { bytes = columns; spare = 0; pages = pages; blocks = blocks; luns = luns; programs = 0 }
 
 -- what a byte says, on a part: 5 to 10 times 65,536 are a job's values
-unfoldable pub said_on : ℕ → Geometry → ℕ
+abbrev pub said_on : ℕ → Geometry → ℕ
 said_on s g =
-    pick (ltb 4 (s / 65536) && ltb (s / 65536) 11) (said_number (on_part g (said.Value (asks_of (s / 65536 - 4)) (s % 65536))))
-    s
+    if ltb 4 (s / 65536) && ltb (s / 65536) 11 then said_number (on_part g (said.Value (asks_of (s / 65536 - 4)) (s % 65536)))
+    else s
 
-unfoldable pub text_begins : ℕ → ℕ → ℕ
+abbrev pub text_begins : ℕ → ℕ → ℕ
 text_begins s b = bit (eqb (reading_of s).word.length 0 && not (reading_of s).comment && not (is_gap b))
 
-unfoldable pub back_next : ℕ → ℕ → ℕ
+abbrev pub back_next : ℕ → ℕ → ℕ
 back_next s b = writing_number (wrote_next (writing_of s) b).writing

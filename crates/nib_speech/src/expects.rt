@@ -1,13 +1,14 @@
 // What a script expects, for hosts: what has been answered since the last expectation, as one number; whether an expectation
 // holds; and, onto `out`, the words of one that failed. 256 bytes are room enough for any of them.
 ghost use Rattle.std.specs.Prelude.{◌≡◌};
-ghost use Rattle.nib_words.specs.Desk.{Desk, wrote};
 ghost use Rattle.nib_expect.specs.Words.{ok_words, refusal_words, bytes_failed, script_words, failed_words};
+ghost use Rattle.nib_speech.specs.Speech.{Says};
 ghost use Rattle.nib_speech.specs.Expects.{since_of, since_number, expect_next, expect_ok, expect_refusal, expect_bytes};
 
 use crate::states::set_bit;
 use nib_expect::words::{bytes_failed, failed_words, ok_words, refusal_words, script_words};
 use nib_expect::{Since, after, bytes_hold, ok_holds, refusal_holds};
+use nib_words::desk::Desk;
 
 pub fn since_of(n: u64) -> Since
     ensures { result ≡ since_of n }
@@ -69,17 +70,21 @@ pub extern "C" fn nib_expect_bytes(state: u64, given: &[u8], wanted: &[u8]) -> u
 // The words of an `ok` that failed.
 #[unsafe(no_mangle)]
 pub extern "C" fn nib_say_not_ok(state: u64, out: &mut [u8]) -> usize
-    ensures { ◌≡◌ {A = Desk} (record { room = out.new; at = result }) (wrote (record { room = out.old; at = 0 }) (ok_words (since_of state))) }
+    ensures { Says out.old out.new result (ok_words (since_of state)) }
 {
-    ok_words(out, 0, since_of(state))
+    let mut desk = Desk { room: out, at: 0 };
+    ok_words(&mut desk, since_of(state));
+    desk.at
 }
 
 // The words of a refusal that was expected and did not come; `last` is the number of the last event.
 #[unsafe(no_mangle)]
 pub extern "C" fn nib_say_not_refusal(state: u64, last: usize, refusal: u8, out: &mut [u8]) -> usize
-    ensures { ◌≡◌ {A = Desk} (record { room = out.new; at = result }) (wrote (record { room = out.old; at = 0 }) (refusal_words (since_of state) last refusal)) }
+    ensures { Says out.old out.new result (refusal_words (since_of state) last refusal) }
 {
-    refusal_words(out, 0, since_of(state), last, refusal)
+    let mut desk = Desk { room: out, at: 0 };
+    refusal_words(&mut desk, since_of(state), last, refusal);
+    desk.at
 }
 
 // The words of bytes that were expected and did not come; of a long list its first 16.
@@ -90,23 +95,29 @@ pub extern "C" fn nib_say_not_bytes(
     wanted: &[u8],
     out: &mut [u8],
 ) -> usize
-    ensures { ◌≡◌ {A = Desk} (record { room = out.new; at = result }) (wrote (record { room = out.old; at = 0 }) (bytes_failed (since_of state) given.now wanted.now)) }
+    ensures { Says out.old out.new result (bytes_failed (since_of state) given.now wanted.now) }
 {
-    bytes_failed(out, 0, since_of(state), given, wanted)
+    let mut desk = Desk { room: out, at: 0 };
+    bytes_failed(&mut desk, since_of(state), given, wanted);
+    desk.at
 }
 
 // How many events and expectations a script had.
 #[unsafe(no_mangle)]
 pub extern "C" fn nib_say_script(events: usize, expected: usize, out: &mut [u8]) -> usize
-    ensures { ◌≡◌ {A = Desk} (record { room = out.new; at = result }) (wrote (record { room = out.old; at = 0 }) (script_words events expected)) }
+    ensures { Says out.old out.new result (script_words events expected) }
 {
-    script_words(out, 0, events, expected)
+    let mut desk = Desk { room: out, at: 0 };
+    script_words(&mut desk, events, expected);
+    desk.at
 }
 
 // How many of its expectations failed.
 #[unsafe(no_mangle)]
 pub extern "C" fn nib_say_failed(failed: usize, expected: usize, out: &mut [u8]) -> usize
-    ensures { ◌≡◌ {A = Desk} (record { room = out.new; at = result }) (wrote (record { room = out.old; at = 0 }) (failed_words failed expected)) }
+    ensures { Says out.old out.new result (failed_words failed expected) }
 {
-    failed_words(out, 0, failed, expected)
+    let mut desk = Desk { room: out, at: 0 };
+    failed_words(&mut desk, failed, expected);
+    desk.at
 }

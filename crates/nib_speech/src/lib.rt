@@ -9,12 +9,12 @@ pub mod pieces;
 pub mod states;
 
 ghost use Rattle.std.specs.Prelude.{◌≡◌, not, eqb};
-ghost use Rattle.nib_words.specs.Desk.{Desk, wrote};
+ghost use Rattle.nib_words.specs.Desk.{Writes};
 ghost use Rattle.nib_words.specs.Say.{event_words, reply_words, rule_words};
-ghost use Rattle.nib_told.specs.Lines.{line_at};
+ghost use Rattle.nib_told.specs.Lines.{next_place};
 ghost use Rattle.nib_places.specs.Places.{row_of};
-ghost use Rattle.nib_speech.specs.Speech.{version_number, text_next, text_said, text_job, text_listed, text_begins, sizes, said_on, back_next};
-ghost use Rattle.nib_speech.specs.Pieces.{reason_words, back_words, end_words, line_said};
+ghost use Rattle.nib_speech.specs.Speech.{Says, version_number, text_next, text_said, text_job, text_listed, text_begins, sizes, said_on, back_next};
+ghost use Rattle.nib_speech.specs.Pieces.{reason_words, back_words, end_words, part_of, line_said};
 
 use nib_places::{on_part, row_of};
 use nib_text::job_words::job_number;
@@ -22,6 +22,7 @@ use nib_text::reading::{Said, is_gap, next};
 use nib_text::writing::{wrote_end, wrote_next, wrote_odd};
 use nib_told::lines::line_at;
 use nib_told::words::line_words;
+use nib_words::desk::Desk;
 use nib_words::say::{event, reply, rule};
 use pieces::{piece_words, reason};
 use states::{
@@ -50,9 +51,7 @@ pub extern "C" fn nib_version() -> u32
 pub extern "C" fn nib_text_next(state: u64, byte: u8) -> u64
     ensures { result ≡ text_next state byte }
 {
-    let read = next(reading_of(state), byte);
-    let r = read.reading;
-    reading_number(r)
+    reading_number(next(reading_of(state), byte).reading)
 }
 
 // What that byte adds to the trace: what it is times 65,536, and the value. 0 nothing; 1 a record, its kind times 256 and its
@@ -63,9 +62,7 @@ pub extern "C" fn nib_text_next(state: u64, byte: u8) -> u64
 pub extern "C" fn nib_text_said(state: u64, byte: u8) -> u64
     ensures { result ≡ text_said state byte }
 {
-    let read = next(reading_of(state), byte);
-    let said = read.said;
-    said_number(said)
+    said_number(next(reading_of(state), byte).said)
 }
 
 // The job that ends with that byte, 1 to 5, with what it adds as the job's last value; 0 for none. It means nothing where the
@@ -74,9 +71,7 @@ pub extern "C" fn nib_text_said(state: u64, byte: u8) -> u64
 pub extern "C" fn nib_text_job(state: u64, byte: u8) -> u8
     ensures { result ≡ text_job state byte }
 {
-    let read = next(reading_of(state), byte);
-    let whole = read.whole;
-    job_number(whole)
+    job_number(next(reading_of(state), byte).whole)
 }
 
 // 1 where a list of expected bytes ends with that byte, with what it says as the list's last; 0 elsewhere. It means nothing where
@@ -85,8 +80,7 @@ pub extern "C" fn nib_text_job(state: u64, byte: u8) -> u8
 pub extern "C" fn nib_text_listed(state: u64, byte: u8) -> u8
     ensures { result ≡ text_listed state byte }
 {
-    let read = next(reading_of(state), byte);
-    set_bit(read.listed)
+    set_bit(next(reading_of(state), byte).listed)
 }
 
 // The sizes of a part; `columns` is its page size P.
@@ -103,6 +97,13 @@ pub fn sizes(luns: usize, blocks: usize, pages: usize, columns: u16) -> Geometry
     }
 }
 
+// The part of these sizes; with no LUNs no part is known.
+fn part_of(g: Geometry) -> Option<Geometry>
+    ensures { result ≡ part_of g }
+{
+    if g.luns == 0 { None } else { Some(g) }
+}
+
 // What a byte adds, on a part: a bad word where it is a value of a job that the part has not.
 #[unsafe(no_mangle)]
 pub extern "C" fn nib_text_on_part(
@@ -115,14 +116,12 @@ pub extern "C" fn nib_text_on_part(
     ensures { result ≡ said_on said (sizes luns blocks pages columns) }
 {
     let what = said / 65536;
-    if (4 < what) & (what < 11) {
-        let of = asks_of(what - 4);
+    if 4 < what && what < 11 {
         let value = Said::Value {
-            of,
+            of: asks_of(what - 4),
             number: (said % 65536) as usize,
         };
-        let s = on_part(sizes(luns, blocks, pages, columns), value);
-        said_number(s)
+        said_number(on_part(sizes(luns, blocks, pages, columns), value))
     } else {
         said
     }
@@ -149,8 +148,7 @@ pub extern "C" fn nib_text_begins(state: u64, byte: u8) -> u8
     ensures { result ≡ text_begins state byte }
 {
     let r = reading_of(state);
-    let w = r.word;
-    set_bit((w.length == 0) & !r.comment & !is_gap(byte))
+    set_bit(r.word.length == 0 && !r.comment && !is_gap(byte))
 }
 
 // ---- trace to text ----
@@ -160,31 +158,36 @@ pub extern "C" fn nib_text_begins(state: u64, byte: u8) -> u8
 pub extern "C" fn nib_back_next(state: u64, byte: u8) -> u64
     ensures { result ≡ back_next state byte }
 {
-    let wrote = wrote_next(writing_of(state), byte);
-    let w = wrote.writing;
-    writing_number(w)
+    writing_number(wrote_next(writing_of(state), byte).writing)
 }
 
 // The text of that byte onto `out`, as much of it as there is room for; how many bytes. 64 are room enough.
 #[unsafe(no_mangle)]
 pub extern "C" fn nib_back_text(state: u64, byte: u8, out: &mut [u8]) -> usize
-    ensures { ◌≡◌ {A = Desk} (record { room = out.new; at = result }) (wrote (record { room = out.old; at = 0 }) (back_words state byte)) }
+    ensures { Says out.old out.new result (back_words state byte) }
 {
-    let wrote = wrote_next(writing_of(state), byte);
-    let piece = wrote.piece;
-    piece_words(out, 0, piece)
+    let mut desk = Desk { room: out, at: 0 };
+    piece_words(&mut desk, wrote_next(writing_of(state), byte).piece);
+    desk.at
+}
+
+// An odd last byte, and what is left to write.
+fn end_words(desk: &mut Desk<'_>, state: u64)
+    ensures { Writes desk.old desk.new (end_words state) }
+{
+    let wrote = wrote_odd(writing_of(state));
+    piece_words(desk, wrote.piece);
+    piece_words(desk, wrote_end(wrote.writing));
 }
 
 // The text of a trace's end.
 #[unsafe(no_mangle)]
 pub extern "C" fn nib_back_end(state: u64, out: &mut [u8]) -> usize
-    ensures { ◌≡◌ {A = Desk} (record { room = out.new; at = result }) (wrote (record { room = out.old; at = 0 }) (end_words state)) }
+    ensures { Says out.old out.new result (end_words state) }
 {
-    let wrote = wrote_odd(writing_of(state));
-    let w = wrote.writing;
-    let piece = wrote.piece;
-    let at = piece_words(out, 0, piece);
-    piece_words(out, at, wrote_end(w))
+    let mut desk = Desk { room: out, at: 0 };
+    end_words(&mut desk, state);
+    desk.at
 }
 
 // ---- words: onto `out`, as much as there is room for; how many bytes ----
@@ -193,35 +196,43 @@ pub extern "C" fn nib_back_end(state: u64, out: &mut [u8]) -> usize
 // are room enough.
 #[unsafe(no_mangle)]
 pub extern "C" fn nib_say_event(odd: u8, kind: u8, value: u8, inside: u8, out: &mut [u8]) -> usize
-    ensures { ◌≡◌ {A = Desk} (record { room = out.new; at = result }) (wrote (record { room = out.old; at = 0 }) (event_words (not (eqb odd 0)) kind value (not (eqb inside 0)))) }
+    ensures { Says out.old out.new result (event_words (not (eqb odd 0)) kind value (not (eqb inside 0))) }
 {
-    event(out, 0, !(odd == 0), kind, value, !(inside == 0))
+    let mut desk = Desk { room: out, at: 0 };
+    event(&mut desk, odd != 0, kind, value, inside != 0);
+    desk.at
 }
 
 // A reply in words, `lun` being the LUN that its event is about. 128 are room enough.
 #[unsafe(no_mangle)]
 pub extern "C" fn nib_say_reply(first: u8, second: u8, lun: usize, out: &mut [u8]) -> usize
-    ensures { ◌≡◌ {A = Desk} (record { room = out.new; at = result }) (wrote (record { room = out.old; at = 0 }) (reply_words first second lun)) }
+    ensures { Says out.old out.new result (reply_words first second lun) }
 {
-    reply(out, 0, first, second, lun)
+    let mut desk = Desk { room: out, at: 0 };
+    reply(&mut desk, first, second, lun);
+    desk.at
 }
 
 // The words of a refusal's rule; none where no rule has the number. 96 are room enough.
 #[unsafe(no_mangle)]
 pub extern "C" fn nib_say_rule(number: u8, out: &mut [u8]) -> usize
-    ensures { ◌≡◌ {A = Desk} (record { room = out.new; at = result }) (wrote (record { room = out.old; at = 0 }) (rule_words number)) }
+    ensures { Says out.old out.new result (rule_words number) }
 {
-    rule(out, 0, number)
+    let mut desk = Desk { room: out, at: 0 };
+    rule(&mut desk, number);
+    desk.at
 }
 
 // Where the next line of a trace that is told as jobs begins, of the line at a place; that place itself where the trace has no
 // record there.
 #[unsafe(no_mangle)]
 pub extern "C" fn nib_line_next(records: &[u8], at: usize) -> usize
-    ensures { result ≡ (line_at records.now at).next }
+    ensures { result ≡ next_place records.now at }
 {
-    let line = line_at(records, at);
-    line.next
+    match line_at(records, at) {
+        Some(line) => line.next,
+        None => at,
+    }
 }
 
 // That line in words, on a part; where `luns` is 0, with no part known. 128 are room enough.
@@ -235,18 +246,23 @@ pub extern "C" fn nib_say_line(
     columns: u16,
     out: &mut [u8],
 ) -> usize
-    ensures { ◌≡◌ {A = Desk} (record { room = out.new; at = result }) (wrote (record { room = out.old; at = 0 }) (line_said records.now at (sizes luns blocks pages columns))) }
+    ensures { Says out.old out.new result (line_said records.now at (sizes luns blocks pages columns)) }
 {
-    let line = line_at(records, at);
-    let told = line.told;
-    let g = sizes(luns, blocks, pages, columns);
-    line_words(out, 0, !(luns == 0), g, told, line.next)
+    let mut desk = Desk { room: out, at: 0 };
+    line_words(
+        &mut desk,
+        part_of(sizes(luns, blocks, pages, columns)),
+        line_at(records, at),
+    );
+    desk.at
 }
 
 // The words of why a word of a text is bad, 1 to 14 as `nib_text_said` gives it; none for another number. 128 are room enough.
 #[unsafe(no_mangle)]
 pub extern "C" fn nib_say_wrong(which: u8, out: &mut [u8]) -> usize
-    ensures { ◌≡◌ {A = Desk} (record { room = out.new; at = result }) (wrote (record { room = out.old; at = 0 }) (reason_words which)) }
+    ensures { Says out.old out.new result (reason_words which) }
 {
-    reason(out, 0, which)
+    let mut desk = Desk { room: out, at: 0 };
+    reason(&mut desk, which);
+    desk.at
 }

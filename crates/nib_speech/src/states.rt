@@ -3,53 +3,63 @@ ghost use Rattle.std.specs.Prelude.{◌≡◌};
 ghost use Rattle.nib_speech.specs.Speech.{bit, kind_of, first_of, asks_of, reading_of, reading_number, wrong_number, said_number, writing_of, writing_number};
 
 use jobs::reading::First;
-use nib_text::job_words::{Asks, asks_number, job_number, pick_asks, pick_first};
+use nib_text::job_words::{Asks, asks_number, job_number};
 use nib_text::reading::{Reading, Said, Word, Wrong};
 use nib_text::writing::Writing;
-use nib_text::{Kind, kind_number, pick_kind};
+use nib_text::{Kind, kind_number};
 
 pub fn set_bit(b: bool) -> u8
     ensures { result ≡ bit b }
 {
-    if b { 1 } else { 0 }
+    u8::from(b)
 }
 
-pub fn kind_of(n: u64) -> Kind
+// The letter of a number; None for 0, and for a number that no letter has.
+pub fn kind_of(n: u64) -> Option<Kind>
     ensures { result ≡ kind_of n }
 {
-    let k = pick_kind(n == 10, Kind::Accepted, Kind::Nothing);
-    let k = pick_kind(n == 9, Kind::Refusal, k);
-    let k = pick_kind(n == 8, Kind::Bytes, k);
-    let k = pick_kind(n == 7, Kind::Raw, k);
-    let k = pick_kind(n == 6, Kind::Protect, k);
-    let k = pick_kind(n == 5, Kind::Finish, k);
-    let k = pick_kind(n == 4, Kind::DataOut, k);
-    let k = pick_kind(n == 3, Kind::DataIn, k);
-    let k = pick_kind(n == 2, Kind::Address, k);
-    pick_kind(n == 1, Kind::Command, k)
+    match n {
+        1 => Some(Kind::Command),
+        2 => Some(Kind::Address),
+        3 => Some(Kind::DataIn),
+        4 => Some(Kind::DataOut),
+        5 => Some(Kind::Finish),
+        6 => Some(Kind::Protect),
+        7 => Some(Kind::Raw),
+        8 => Some(Kind::Bytes),
+        9 => Some(Kind::Refusal),
+        10 => Some(Kind::Accepted),
+        _ => None,
+    }
 }
 
 // The job of a number.
-pub fn first_of(n: u64) -> First
+pub fn first_of(n: u64) -> Option<First>
     ensures { result ≡ first_of n }
 {
-    let f = pick_first(n == 5, First::Status, First::Nothing);
-    let f = pick_first(n == 4, First::Erase, f);
-    let f = pick_first(n == 3, First::Program, f);
-    let f = pick_first(n == 2, First::ReadOut, f);
-    pick_first(n == 1, First::Read, f)
+    match n {
+        1 => Some(First::Read),
+        2 => Some(First::ReadOut),
+        3 => Some(First::Program),
+        4 => Some(First::Erase),
+        5 => Some(First::Status),
+        _ => None,
+    }
 }
 
 // What a job's value is, of a number.
-pub fn asks_of(n: u64) -> Asks
+pub fn asks_of(n: u64) -> Option<Asks>
     ensures { result ≡ asks_of n }
 {
-    let a = pick_asks(n == 6, Asks::Byte, Asks::Nothing);
-    let a = pick_asks(n == 5, Asks::Count, a);
-    let a = pick_asks(n == 4, Asks::Column, a);
-    let a = pick_asks(n == 3, Asks::Page, a);
-    let a = pick_asks(n == 2, Asks::Block, a);
-    pick_asks(n == 1, Asks::Lun, a)
+    match n {
+        1 => Some(Asks::Lun),
+        2 => Some(Asks::Block),
+        3 => Some(Asks::Page),
+        4 => Some(Asks::Column),
+        5 => Some(Asks::Count),
+        6 => Some(Asks::Byte),
+        _ => None,
+    }
 }
 
 pub fn reading_of(n: u64) -> Reading
@@ -81,8 +91,6 @@ pub fn reading_number(r: Reading) -> u64
     ensures { result ≡ reading_number r }
 {
     let w = r.word;
-    let k = r.kind;
-    let job = r.job;
     set_bit(r.comment) as u64
         + (set_bit(r.due) as u64) * 2
         + (set_bit(!w.hexed) as u64) * 4
@@ -94,8 +102,8 @@ pub fn reading_number(r: Reading) -> u64
         + (set_bit(r.part) as u64) * 35184372088832
         + (w.name as u64) % 64 * 70368744177664
         + (r.got as u64) % 8 * 4503599627370496
-        + (job_number(job) as u64) * 36028797018963968
-        + (kind_number(k) as u64) % 16 * 288230376151711744
+        + (job_number(r.job) as u64) * 36028797018963968
+        + (kind_number(r.kind) as u64) % 16 * 288230376151711744
 }
 
 pub fn wrong_number(w: Wrong) -> u8
@@ -140,11 +148,10 @@ pub fn said_number(s: Said) -> u64
 pub fn writing_of(n: u64) -> Writing
     ensures { result ≡ writing_of n }
 {
-    let line = kind_of(n / 2 % 16);
+    let first = (n / 32 % 256) as u8;
     Writing {
-        half: n % 2 == 1,
-        first: (n / 32 % 256) as u8,
-        line,
+        half: if n % 2 == 1 { Some(first) } else { None },
+        line: kind_of(n / 2 % 16),
         many: (n / 8192) as usize,
     }
 }
@@ -152,9 +159,8 @@ pub fn writing_of(n: u64) -> Writing
 pub fn writing_number(w: Writing) -> u64
     ensures { result ≡ writing_number w }
 {
-    let line = w.line;
-    set_bit(w.half) as u64
-        + (kind_number(line) as u64) * 2
-        + (w.first as u64) * 32
+    set_bit(w.half.is_some()) as u64
+        + (kind_number(w.line) as u64) * 2
+        + (w.half.unwrap_or(0) as u64) * 32
         + (w.many as u64) % 65536 * 8192
 }

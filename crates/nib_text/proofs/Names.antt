@@ -12,7 +12,7 @@ use lib.ListN.{take, drop, get_or}
 use lib.Seq.{drop-cons}
 use lib.Dec.{eqb, ltb, leb}
 use borrow.Author.Tests.{eqb-true, ltb-true, le-leb}
-use Rattle.target.specs.Pick.{pick}
+use Rattle.std.specs.Prelude.{if◌then◌else◌, Option, Some, None}
 use Rattle.target.proofs.Both.{both3}
 use Rattle.jobs.specs.declared.reading.First.{First}
 use Rattle.jobs.specs.declared.reading.First.TheVariants as first
@@ -38,7 +38,6 @@ fails false = refl
 
 -- what is none of the words stays none
 stuck : (b : ℕ) → name_next 63 b ≡ 63
-unfolding name_next
 stuck b = rw (fails (eqb b (get_or letters 63 0) && not (eqb b 0)))
 
 never : (bs : List ℕ) → name_after 63 bs ≡ 63
@@ -65,11 +64,10 @@ none n =
     record { on = omega arith; same = rw (z); cleared = rw (z) }
 
 spelled : (bs : List ℕ) (n m : ℕ) → name_after n bs ≡ m → m < 63 → Spelled n m bs
-unfolding name_next
 spelled [] n m e h = rw (← e) (none n)
 spelled (b ∷ bs) n m e h = by (eqb b (get_or letters n 0) && not (eqb b 0) && ltb n 33) refl (λ f. spelled bs (n + 1) m f h) e where
   by : (t : Bool) → (eqb b (get_or letters n 0) && not (eqb b 0) && ltb n 33) ≡ t → (name_after (n + 1) bs ≡ m → Spelled (n + 1) m bs)
-      → name_after (pick t (n + 1) 63) bs ≡ m → Spelled n m (b ∷ bs)
+      → name_after (if t then n + 1 else 63) bs ≡ m → Spelled n m (b ∷ bs)
   by true t ih e =
       let tests = both3 (eqb b (get_or letters n 0)) (not (eqb b 0)) (ltb n 33) t in
       one-letter n m bs b (eqb-true b (get_or letters n 0) tests.0) tests.1 (ltb-true n 33 tests.2) (ih e)
@@ -106,7 +104,7 @@ module _ (bs : List ℕ) (m : ℕ) (small : m < 63) where
         rw (is, s.same) (right c n k (is-way n m bs s))
 
     by : (a1 a2 a3 a4 a5 : Bool) → eqb b 114 ≡ a1 → eqb b 112 ≡ a2 → eqb b 101 ≡ a3 → eqb b 115 ≡ a4 → eqb b 111 ≡ a5
-        → name_after (pick a1 1 (pick a2 10 (pick a3 18 (pick a4 24 (pick a5 31 63))))) bs ≡ m → b ∷ bs ≡ word
+        → name_after (if a1 then 1 else (if a2 then 10 else (if a3 then 18 else (if a4 then 24 else (if a5 then 31 else 63))))) bs ≡ m → b ∷ bs ≡ word
     by true a2 a3 a4 a5 h1 h2 h3 h4 h5 h = from r (eqb-true b 114 h1) h
     by false true a3 a4 a5 h1 h2 h3 h4 h5 h = from p (eqb-true b 112 h2) h
     by false false true a4 a5 h1 h2 h3 h4 h5 h = from e (eqb-true b 101 h3) h
@@ -115,7 +113,7 @@ module _ (bs : List ℕ) (m : ℕ) (small : m < 63) where
     by false false false false false h1 h2 h3 h4 h5 h = let x : 63 ≡ m = sym (never bs) ∙ h in absurd (omega arith)
 
 -- of the ways to each place only one is there
-read : (c n : ℕ) → Begins c n → way n 4 ≡ true → c ∷ stretch n 4 ≡ word_of first.Read
+read : (c n : ℕ) → Begins c n → way n 4 ≡ true → c ∷ stretch n 4 ≡ word_of (Some first.Read)
 unfolding way stretch clear
 read _ _ r h = refl
 read _ _ p h = absurd (false≢true h)
@@ -123,7 +121,7 @@ read _ _ e h = absurd (false≢true h)
 read _ _ s h = absurd (false≢true h)
 read _ _ o h = absurd (false≢true h)
 
-read_out : (c n : ℕ) → Begins c n → way n 8 ≡ true → c ∷ stretch n 8 ≡ word_of first.ReadOut
+read_out : (c n : ℕ) → Begins c n → way n 8 ≡ true → c ∷ stretch n 8 ≡ word_of (Some first.ReadOut)
 unfolding way stretch clear
 read_out _ _ r h = refl
 read_out _ _ p h = absurd (false≢true h)
@@ -131,7 +129,7 @@ read_out _ _ e h = absurd (false≢true h)
 read_out _ _ s h = absurd (false≢true h)
 read_out _ _ o h = absurd (false≢true h)
 
-program : (c n : ℕ) → Begins c n → way n 16 ≡ true → c ∷ stretch n 16 ≡ word_of first.Program
+program : (c n : ℕ) → Begins c n → way n 16 ≡ true → c ∷ stretch n 16 ≡ word_of (Some first.Program)
 unfolding way stretch clear
 program _ _ r h = absurd (false≢true h)
 program _ _ p h = refl
@@ -139,7 +137,7 @@ program _ _ e h = absurd (false≢true h)
 program _ _ s h = absurd (false≢true h)
 program _ _ o h = absurd (false≢true h)
 
-erase : (c n : ℕ) → Begins c n → way n 22 ≡ true → c ∷ stretch n 22 ≡ word_of first.Erase
+erase : (c n : ℕ) → Begins c n → way n 22 ≡ true → c ∷ stretch n 22 ≡ word_of (Some first.Erase)
 unfolding way stretch clear
 erase _ _ r h = absurd (false≢true h)
 erase _ _ p h = absurd (false≢true h)
@@ -147,7 +145,7 @@ erase _ _ e h = refl
 erase _ _ s h = absurd (false≢true h)
 erase _ _ o h = absurd (false≢true h)
 
-status : (c n : ℕ) → Begins c n → way n 29 ≡ true → c ∷ stretch n 29 ≡ word_of first.Status
+status : (c n : ℕ) → Begins c n → way n 29 ≡ true → c ∷ stretch n 29 ≡ word_of (Some first.Status)
 unfolding way stretch clear
 status _ _ r h = absurd (false≢true h)
 status _ _ p h = absurd (false≢true h)
@@ -164,7 +162,6 @@ ok-word _ _ s h = absurd (false≢true h)
 ok-word _ _ o h = refl
 
 only : (bs : List ℕ) → is_job (job_named (name_of bs)) ≡ true → bs ≡ word_of (job_named (name_of bs))
-unfolding job_named
 only [] h = absurd (false≢true h)
 only (b ∷ bs) h =
     by (eqb (name_of (b ∷ bs)) 4) (eqb (name_of (b ∷ bs)) 8) (eqb (name_of (b ∷ bs)) 16) (eqb (name_of (b ∷ bs)) 22) (eqb (name_of (b ∷ bs)) 29)
@@ -175,9 +172,9 @@ only (b ∷ bs) h =
     (λ x. eqb-true (name_of (b ∷ bs)) 29 x)
     h
   where
-    picked : (a1 a2 a3 a4 a5 : Bool) → First
+    picked : (a1 a2 a3 a4 a5 : Bool) → Option First
     picked a1 a2 a3 a4 a5 =
-        pick a1 first.Read (pick a2 first.ReadOut (pick a3 first.Program (pick a4 first.Erase (pick a5 first.Status first.Nothing))))
+        if a1 then Some first.Read else (if a2 then Some first.ReadOut else (if a3 then Some first.Program else (if a4 then Some first.Erase else (if a5 then Some first.Status else None))))
 
     by : (a1 a2 a3 a4 a5 : Bool)
         → (a1 ≡ true → name_of (b ∷ bs) ≡ 4)
@@ -194,17 +191,15 @@ only (b ∷ bs) h =
     by false false false false true h1 h2 h3 h4 h5 h = begins bs 29 (omega arith) b _ status (h5 refl)
     by false false false false false h1 h2 h3 h4 h5 h = absurd (false≢true h)
 
-named : (f : First) → job_named (name_of (word_of f)) ≡ f
-unfolding job_named name_begun name_next
-named first.Nothing = refl
-named first.Read = refl
-named first.ReadOut = refl
-named first.Program = refl
-named first.Erase = refl
-named first.Status = refl
+named : (f : Option First) → job_named (name_of (word_of f)) ≡ f
+named None = refl
+named (Some first.Read) = refl
+named (Some first.ReadOut) = refl
+named (Some first.Program) = refl
+named (Some first.Erase) = refl
+named (Some first.Status) = refl
 
 ok : is_ok (name_of (ok_word [])) ≡ true
-unfolding name_begun name_next
 ok = refl
 
 only-ok : (bs : List ℕ) → is_ok (name_of bs) ≡ true → bs ≡ ok_word []

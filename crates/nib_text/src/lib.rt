@@ -11,12 +11,10 @@ pub mod writing;
 
 ghost use Rattle.std.specs.Prelude.{◌≡◌};
 ghost use Rattle.nib_text.specs.Kinds.{kind_number, same_kind};
-ghost use Rattle.target.specs.Pick.{pick};
 
-// What the values on a line are: the letter that stands before them.
-#[derive(Clone, Copy)]
+// What the values on a line are: the letter that stands before them. Where a line has none, it is None.
+#[derive(Clone, Copy, PartialEq, Eq)]
 pub enum Kind {
-    Nothing,
     // c
     Command,
     // a
@@ -39,32 +37,28 @@ pub enum Kind {
     Accepted,
 }
 
-pub fn kind_number(k: Kind) -> u8
+// A letter's number, as hosts have it in their states; 0 for none.
+pub fn kind_number(k: Option<Kind>) -> u8
     ensures { result ≡ kind_number k }
 {
     match k {
-        Kind::Nothing => 0,
-        Kind::Command => 1,
-        Kind::Address => 2,
-        Kind::DataIn => 3,
-        Kind::DataOut => 4,
-        Kind::Finish => 5,
-        Kind::Protect => 6,
-        Kind::Raw => 7,
-        Kind::Bytes => 8,
-        Kind::Refusal => 9,
-        Kind::Accepted => 10,
+        None => 0,
+        Some(Kind::Command) => 1,
+        Some(Kind::Address) => 2,
+        Some(Kind::DataIn) => 3,
+        Some(Kind::DataOut) => 4,
+        Some(Kind::Finish) => 5,
+        Some(Kind::Protect) => 6,
+        Some(Kind::Raw) => 7,
+        Some(Kind::Bytes) => 8,
+        Some(Kind::Refusal) => 9,
+        Some(Kind::Accepted) => 10,
     }
 }
 
-pub fn same_kind(a: Kind, b: Kind) -> bool
+// By the derived `==`; the clause has the definition's word.
+pub fn same_kind(a: Option<Kind>, b: Option<Kind>) -> bool
     ensures { result ≡ same_kind a b }
 {
-    kind_number(a) == kind_number(b)
-}
-
-pub fn pick_kind(b: bool, x: Kind, y: Kind) -> Kind
-    ensures { result ≡ pick b x y }
-{
-    if b { x } else { y }
+    a == b
 }

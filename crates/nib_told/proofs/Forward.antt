@@ -1,6 +1,6 @@
 -- Each line goes on from its place: no record is told twice, and none is left out.
 -- Assumes nothing.
-use mathlib.Core.Path.{◌≡◌, refl, sym}
+use mathlib.Core.Path.{◌≡◌, refl}
 use mathlib.Core.Bool.{Bool, true, false, ◌&&◌, ◌||◌, false≢true}
 use mathlib.Core.List.{List, ◌∷◌}
 use Prim.Native.Nat.{ℕ, ◌+◌, ◌*◌, ◌/◌, ◌<◌}
@@ -8,14 +8,14 @@ use native.Mathlib.Omega.{arith}
 use lib.ListN.{length, drop}
 use lib.Dec.{eqb, ltb}
 use borrow.Author.Tests.{ltb-true, eqb-true}
-use Rattle.target.specs.Pick.{pick}
-use Rattle.jobs.specs.declared.reading.Found.{Found}
-use Rattle.jobs.specs.declared.reading.Found.TheVariants as found
+use Rattle.std.specs.Prelude.{if◌then◌else◌, Option, Some, None, Result, Ok, Err}
+use Rattle.jobs.specs.declared.reading.FoundJob.{FoundJob}
+use Rattle.jobs.specs.declared.reading.Misfit.{Misfit}
 use Rattle.jobs.specs.Reading.{of_kind, run, many_of, job_at}
 use Rattle.jobs.proofs.Runs.{record-at}
 use Rattle.jobs.proofs.Walks.{job-ahead}
 use Rattle.nib_told.specs.declared.lines.Line.{Line}
-use Rattle.nib_told.specs.Lines.{kind_at, value_at, is_data, times_of, begun_at, alone_at, line_of, line_at, is_end, Forward}
+use Rattle.nib_told.specs.Lines.{kind_at, value_at, is_data, times_of, begun_at, alone_at, line_of, line_at, Forward}
 
 -- a data cycle is of its own kind
 of_two : (k v : ℕ) → k ≡ 2 → of_kind k k v ≡ true
@@ -38,34 +38,35 @@ one-of-many k v ts h = rw (h) (omega arith)
 
 module _ (trace : List ℕ) (at : ℕ) (below : at < length trace / 2) where
   once-at-least : 0 < times_of (kind_at trace at) (value_at trace at) trace at
-  unfolding times_of
   once-at-least = by (is_data (kind_at trace at) (value_at trace at)) refl where
-    by : (b : Bool) → is_data (kind_at trace at) (value_at trace at) ≡ b → 0 < pick b (many_of (kind_at trace at) (drop (2 * at) trace)) 1
+    by : (b : Bool) → is_data (kind_at trace at) (value_at trace at) ≡ b → 0 < (if b then many_of (kind_at trace at) (drop (2 * at) trace) else 1)
     by true e =
         let bound : 2 * at + 1 < length trace = omega arith in
         rw (record-at trace at bound) (one-of-many (kind_at trace at) (value_at trace at) (drop (2 * (at + 1)) trace) (own-kind (kind_at trace at) (value_at trace at) e))
     by false e = omega arith
 
-either : (at : ℕ) (b : Bool) (x y : Line) → (b ≡ true → at < x.next) → (b ≡ false → at < y.next) → at < (pick b x y).next
+either : (at : ℕ) (b : Bool) (x y : Line) → (b ≡ true → at < x.next) → (b ≡ false → at < y.next) → at < (if b then x else y).next
 either at true x y p q = p refl
 either at false x y p q = q refl
 
 alone-on : (trace : List ℕ) (at : ℕ) → at < (alone_at trace at).next
-unfolding alone_at
 alone-on trace at =
     either at (ltb at (length trace / 2)) _ _
     (λ e. let h : 0 < times_of (kind_at trace at) (value_at trace at) trace at = once-at-least trace at (ltb-true at (length trace / 2) e) in omega arith)
     (λ e. omega arith)
 
-misfit-on : (trace : List ℕ) (at p : ℕ) → at < (pick (ltb at p) (begun_at trace at p) (alone_at trace at)).next
-unfolding begun_at
+misfit-on : (trace : List ℕ) (at p : ℕ) → at < (if ltb at p then begun_at trace at p else alone_at trace at).next
 misfit-on trace at p = either at (ltb at p) _ _ (λ e. ltb-true at p e) (λ e. alone-on trace at)
 
-found-on : (trace : List ℕ) (at : ℕ) (f : Found) → job_at trace at ≡ f → is_end (line_of f trace at).told ≡ false → at < (line_of f trace at).next
-found-on trace at found.End e h = absurd (false≢true (sym h))
-found-on trace at (found.Misfit p) e h = misfit-on trace at p
-found-on trace at (found.Whole j d n p) e h = omega (arith, (job-ahead trace at j d n p e).low)
+on-to : (at : ℕ) (x y : Line) → Some x ≡ Some y → at < x.next → at < y.next
+on-to at x y e h = let q : x ≡ y = cc in rw (← q) h
+
+found-on : (trace : List ℕ) (at : ℕ) (f : Result (Option FoundJob) Misfit) (line : Line) → job_at trace at ≡ f → line_of f trace at ≡ Some line
+    → at < line.next
+found-on trace at (Ok None) line e h = cc
+found-on trace at (Err m) line e h = on-to at _ line h (misfit-on trace at m.place)
+found-on trace at (Ok (Some g)) line e h = on-to at _ line h (omega (arith, (job-ahead trace at g e).low))
 
 pub forward : Forward
 unfolding Forward line_at
-forward trace at h = found-on trace at (job_at trace at) refl h
+forward trace at line h = found-on trace at (job_at trace at) line refl h

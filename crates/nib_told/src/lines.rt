@@ -1,22 +1,20 @@
 // A trace line by line: a whole job, or what is none. Places count records from 0.
 ghost use Rattle.std.specs.Prelude.{◌≡◌, ◌+◌, ◌/◌, ◌<◌, ◌≤◌, length};
-ghost use Rattle.nib_told.specs.Lines.{is_data, times_of, in_program, moves, begun_at, alone_at, line_at, is_end};
+ghost use Rattle.nib_told.specs.Lines.{is_data, times_of, in_program, moves, begun_at, alone_at, line_at};
 
 use jobs::Job;
-use jobs::reading::{Found, job_at, many};
+use jobs::reading::{job_at, many};
 use slices::byte_at;
-use target::picks::pick_number;
 
 // What stands at a place.
 #[derive(Clone, Copy)]
 pub enum Told {
-    // no record: the trace ends there
-    End,
     // a whole job; `count` is that of a program's bytes
     Whole {
         job: Job,
         count: usize,
     },
+    // here and below kind and value are a record's two bytes, which may name no kind
     // the first record of a job that is not whole: the record at the next place doesn't fit it, or the trace ends there
     Begun {
         kind: u8,
@@ -41,33 +39,11 @@ pub struct Line {
     pub next: usize,
 }
 
-// The trace has no record there.
-pub fn is_end(told: Told) -> bool
-    ensures { result ≡ is_end told }
-{
-    match told {
-        Told::End => true,
-        Told::Whole { job: _, count: _ } => false,
-        Told::Begun {
-            kind: _,
-            value: _,
-            ends: _,
-        } => false,
-        Told::Event {
-            kind: _,
-            value: _,
-            times: _,
-            inside: _,
-        } => false,
-        Told::Odd(_) => false,
-    }
-}
-
 // Data in, or a data out as it should be.
 fn is_data(kind: u8, value: u8) -> bool
     ensures { result ≡ is_data kind value }
 {
-    (kind == 2) | ((kind == 3) & (value == 0))
+    kind == 2 || (kind == 3 && value == 0)
 }
 
 fn begun_at(trace: &[u8], at: usize, misfit: usize) -> Line
@@ -88,9 +64,11 @@ fn times_of(kind: u8, value: u8, trace: &[u8], at: usize) -> usize
     requires { at < length trace.now / 2 }
     ensures { (result ≡ times_of kind value trace.now at) × (at + result ≤ length trace.now / 2) }
 {
-    let data = is_data(kind, value);
-    let n = many(data, kind, trace, at);
-    pick_number(data, n, 1)
+    if is_data(kind, value) {
+        many(true, kind, trace, at)
+    } else {
+        1
+    }
 }
 
 // Whether a program is open at a place, by the last command before it: 80h, or 85h. What a part would refuse is not known here.
@@ -98,12 +76,10 @@ fn in_program(trace: &[u8], at: usize) -> bool
     requires { at ≤ length trace.now / 2 }
     ensures { result ≡ in_program trace.now at }
 {
-    let mut i = at;
-    while 0 < i {
-        i -= 1;
+    for i in (0..at).rev() {
         if byte_at(trace, 2 * i) == 0 {
             let value = byte_at(trace, 2 * i + 1);
-            return (value == 0x80) | (value == 0x85);
+            return value == 0x80 || value == 0x85;
         }
     }
     false
@@ -114,11 +90,7 @@ fn moves(kind: u8, value: u8, trace: &[u8], at: usize) -> bool
     requires { at ≤ length trace.now / 2 }
     ensures { result ≡ moves kind value trace.now at }
 {
-    if (kind == 0) & (value == 0x85) {
-        in_program(trace, at)
-    } else {
-        false
-    }
+    kind == 0 && value == 0x85 && in_program(trace, at)
 }
 
 fn alone_at(trace: &[u8], at: usize) -> Line
@@ -147,37 +119,24 @@ fn alone_at(trace: &[u8], at: usize) -> Line
     }
 }
 
-// The line that begins at a place.
-pub fn line_at(trace: &[u8], at: usize) -> Line
+// The line that begins at a place; None where the trace has no record there.
+#[tactic(auto, unfolding(crate::specs::Lines::line_at))]
+pub fn line_at(trace: &[u8], at: usize) -> Option<Line>
     ensures { result ≡ line_at trace.now at }
 {
     if trace.len() / 2 < at {
-        return Line {
-            told: Told::End,
-            next: at,
-        };
+        return None;
     }
-    let found = job_at(trace, at);
-    match found {
-        Found::End => Line {
-            told: Told::End,
-            next: at,
-        },
-        Found::Misfit(p) => {
-            if at < p {
-                begun_at(trace, at, p)
-            } else {
-                alone_at(trace, at)
-            }
-        }
-        Found::Whole {
-            job,
-            data: _,
-            count,
-            next,
-        } => Line {
-            told: Told::Whole { job, count },
-            next,
-        },
+    match job_at(trace, at) {
+        Ok(None) => None,
+        Ok(Some(found)) => Some(Line {
+            told: Told::Whole {
+                job: found.job,
+                count: found.count,
+            },
+            next: found.next,
+        }),
+        Err(misfit) if at < misfit.place => Some(begun_at(trace, at, misfit.place)),
+        Err(_) => Some(alone_at(trace, at)),
     }
 }

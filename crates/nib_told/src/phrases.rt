@@ -1,7 +1,6 @@
 // What is told of a job: its name, its place on a part or its row, its column and how many bytes it has.
 ghost use Rattle.std.specs.Prelude.{◌≡◌};
-ghost use Rattle.nib_told.specs.Phrases.{page_at, block_at, lun_at, on_page, phrase_of};
-ghost use Rattle.target.specs.Pick.{pick};
+ghost use Rattle.nib_told.specs.Phrases.{page_at, block_at, lun_at, page_there, block_there, lun_there, lun_column_there, on_page, phrase_of};
 
 use jobs::Job;
 use jobs::reading::First;
@@ -26,129 +25,138 @@ pub enum Place {
 }
 
 #[derive(Clone, Copy)]
-pub enum Amount {
-    Nothing,
-    Number(usize),
-}
-
-#[derive(Clone, Copy)]
 pub struct Phrase {
     pub name: First,
     pub place: Place,
-    pub column: Amount,
-    pub bytes: Amount,
+    pub column: Option<usize>,
+    pub bytes: Option<usize>,
     // the part has the place, or no part is known
     pub there: bool,
 }
 
-fn pick_place(b: bool, x: Place, y: Place) -> Place
-    ensures { result ≡ pick b x y }
-{
-    if b { x } else { y }
-}
-
-fn page_at(known: bool, g: Geometry, row: usize) -> Place
-    ensures { result ≡ page_at known g row }
+fn page_at(part: Option<Geometry>, row: usize) -> Place
+    ensures { result ≡ page_at part row }
 {
     let r = Row(row);
-    let page = Place::Page {
-        lun: lun_of(g, r),
-        block: block_of(g, r),
-        page: page_of(g, r),
-    };
-    pick_place(known, page, Place::Row(row))
+    match part {
+        Some(g) => Place::Page {
+            lun: lun_of(g, r),
+            block: block_of(g, r),
+            page: page_of(g, r),
+        },
+        None => Place::Row(row),
+    }
 }
 
-fn block_at(known: bool, g: Geometry, row: usize) -> Place
-    ensures { result ≡ block_at known g row }
+fn block_at(part: Option<Geometry>, row: usize) -> Place
+    ensures { result ≡ block_at part row }
 {
     let r = Row(row);
-    let block = Place::Block {
-        lun: lun_of(g, r),
-        block: block_of(g, r),
-    };
-    pick_place(known, block, Place::Row(row))
+    match part {
+        Some(g) => Place::Block {
+            lun: lun_of(g, r),
+            block: block_of(g, r),
+        },
+        None => Place::Row(row),
+    }
 }
 
-fn lun_at(known: bool, g: Geometry, row: usize) -> Place
-    ensures { result ≡ lun_at known g row }
+fn lun_at(part: Option<Geometry>, row: usize) -> Place
+    ensures { result ≡ lun_at part row }
 {
-    let r = Row(row);
-    pick_place(known, Place::Lun(lun_of(g, r)), Place::Row(row))
+    match part {
+        Some(g) => Place::Lun(lun_of(g, Row(row))),
+        None => Place::Row(row),
+    }
+}
+
+// The part has the place, or no part is known.
+fn page_there(part: Option<Geometry>, column: usize, row: usize) -> bool
+    ensures { result ≡ page_there part column row }
+{
+    match part {
+        Some(g) => row_exists(g, Row(row)) && column < page_size(g),
+        None => true,
+    }
+}
+
+fn block_there(part: Option<Geometry>, row: usize) -> bool
+    ensures { result ≡ block_there part row }
+{
+    match part {
+        Some(g) => block_exists(g, Row(row)),
+        None => true,
+    }
+}
+
+fn lun_there(part: Option<Geometry>, row: usize) -> bool
+    ensures { result ≡ lun_there part row }
+{
+    match part {
+        Some(g) => lun_exists(g, Row(row)),
+        None => true,
+    }
+}
+
+fn lun_column_there(part: Option<Geometry>, column: usize, row: usize) -> bool
+    ensures { result ≡ lun_column_there part column row }
+{
+    match part {
+        Some(g) => lun_exists(g, Row(row)) && column < page_size(g),
+        None => true,
+    }
 }
 
 // A read or a program.
 fn on_page(
-    known: bool,
-    g: Geometry,
+    part: Option<Geometry>,
     name: First,
     column: usize,
     row: usize,
-    bytes: Amount,
+    bytes: Option<usize>,
 ) -> Phrase
-    ensures { result ≡ on_page known g name column row bytes }
+    ensures { result ≡ on_page part name column row bytes }
 {
-    let place = page_at(known, g, row);
-    let there = !known | (row_exists(g, Row(row)) & (column < page_size(g)));
     Phrase {
         name,
-        place,
-        column: Amount::Number(column),
+        place: page_at(part, row),
+        column: Some(column),
         bytes,
-        there,
+        there: page_there(part, column, row),
     }
 }
 
-// What is told of a job; `count` is that of a program's bytes.
-pub fn phrase_of(known: bool, g: Geometry, job: Job, count: usize) -> Phrase
-    ensures { result ≡ phrase_of known g job count }
+// What is told of a job, on a part where one is known; `count` is that of a program's bytes.
+pub fn phrase_of(part: Option<Geometry>, job: Job, count: usize) -> Phrase
+    ensures { result ≡ phrase_of part job count }
 {
     match job {
-        Job::Read { column, row } => on_page(known, g, First::Read, column, row, Amount::Nothing),
+        Job::Read { column, row } => on_page(part, First::Read, column, row, None),
         Job::ReadOut {
             column,
             row,
             count: outs,
-        } => {
-            let place = lun_at(known, g, row);
-            let there = !known | (lun_exists(g, Row(row)) & (column < page_size(g)));
-            Phrase {
-                name: First::ReadOut,
-                place,
-                column: Amount::Number(column),
-                bytes: Amount::Number(outs),
-                there,
-            }
-        }
-        Job::Program { column, row } => on_page(
-            known,
-            g,
-            First::Program,
-            column,
-            row,
-            Amount::Number(count),
-        ),
-        Job::Erase { row } => {
-            let place = block_at(known, g, row);
-            let there = !known | block_exists(g, Row(row));
-            Phrase {
-                name: First::Erase,
-                place,
-                column: Amount::Nothing,
-                bytes: Amount::Nothing,
-                there,
-            }
-        }
-        Job::Status { row, count: outs } => {
-            let place = lun_at(known, g, row);
-            let there = !known | lun_exists(g, Row(row));
-            Phrase {
-                name: First::Status,
-                place,
-                column: Amount::Nothing,
-                bytes: Amount::Number(outs),
-                there,
-            }
-        }
+        } => Phrase {
+            name: First::ReadOut,
+            place: lun_at(part, row),
+            column: Some(column),
+            bytes: Some(outs),
+            there: lun_column_there(part, column, row),
+        },
+        Job::Program { column, row } => on_page(part, First::Program, column, row, Some(count)),
+        Job::Erase { row } => Phrase {
+            name: First::Erase,
+            place: block_at(part, row),
+            column: None,
+            bytes: None,
+            there: block_there(part, row),
+        },
+        Job::Status { row, count: outs } => Phrase {
+            name: First::Status,
+            place: lun_at(part, row),
+            column: None,
+            bytes: Some(outs),
+            there: lun_there(part, row),
+        },
     }
 }

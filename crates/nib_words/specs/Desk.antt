@@ -1,8 +1,9 @@
 -- Bytes put down one after the other.
-use Rattle.std.specs.Prelude.{ℕ, ◌+◌, ◌/◌, ◌%◌, Bool, false, List, [], ◌∷◌, ◌++◌, ltb, length, set}
+use Rattle.std.specs.Prelude.{ℕ, ◌≡◌, ◌+◌, ◌/◌, ◌%◌, Bool, false, List, [], ◌∷◌, ◌++◌, ltb, length, set, if◌then◌else◌}
+use Rattle.std.specs.List.{flat_map}
 use Prim.Native.Char.{code}
 use Prim.Native.String.{String, [] as String·[], ◌∷◌ as ◌String·∷◌}
-use Rattle.target.specs.Pick.{pick}
+use Rattle.nib_words.specs.declared.desk.Desk.{Desk as Lent}
 
 -- a lent slice, and the place where the next byte goes
 pub record Desk : Type 0 where
@@ -10,12 +11,21 @@ pub record Desk : Type 0 where
   pub at : ℕ
 
 -- one byte more, where there is room
-unfoldable pub down : Desk → ℕ → Desk
-down d b = pick (ltb d.at (length d.room)) (record { room = set d.room d.at b; at = d.at + 1 }) d
+abbrev pub down : Desk → ℕ → Desk
+down d b = if ltb d.at (length d.room) then record { room = set d.room d.at b; at = d.at + 1 } else d
 
 unfoldable pub wrote : Desk → List ℕ → Desk
 wrote d [] = d
 wrote d (b ∷ s) = wrote (down d b) s
+
+-- what lies on a lent desk
+abbrev pub lying : Lent → Desk
+lying d = record { room = d.room.now; at = d.at }
+
+-- a lent desk on which these bytes were put down: the slice is the one that was lent
+pub record Writes (old new : Lent) (s : List ℕ) : Type 0 where
+  pub same_room : new.room.ghost_name ≡ old.room.ghost_name
+  pub lies : lying new ≡ wrote (lying old) s
 
 -- the bytes of a text
 abbrev pub ascii : String → List ℕ
@@ -24,11 +34,11 @@ ascii (c String·∷ s) = code c ∷ ascii s
 
 -- words that are said in one case alone
 abbrev pub when : Bool → List ℕ → List ℕ
-when on s = pick on s []
+when on s = if on then s else []
 
 -- a hex digit: 0 to 9, then a to f or A to F
 unfoldable pub glyph : ℕ → Bool → ℕ
-glyph d small = pick (ltb (d % 16) 10) (48 + d % 16) (pick small (87 + d % 16) (55 + d % 16))
+glyph d small = if ltb (d % 16) 10 then 48 + d % 16 else (if small then 87 + d % 16 else 55 + d % 16)
 
 -- a byte as two of them
 unfoldable pub hexed : ℕ → Bool → List ℕ
@@ -38,9 +48,16 @@ hexed b small = glyph (b / 16) small ∷ glyph (b % 16) small ∷ []
 unfoldable pub byte_words : ℕ → List ℕ
 byte_words b = hexed b false ++ (104 ∷ [])
 
+-- bytes, with a blank before each
+abbrev pub spaced : ℕ → List ℕ
+spaced b = 32 ∷ byte_words b
+
+unfoldable pub listed : List ℕ → List ℕ
+listed bytes = flat_map spaced bytes
+
 -- the digit of a number at the place of a power of ten, where the number has it
 abbrev pub placed : ℕ → ℕ → List ℕ
-placed n power = pick (ltb n power) [] ((48 + n / power % 10) ∷ [])
+placed n power = if ltb n power then [] else (48 + n / power % 10) ∷ []
 
 unfoldable pub high_places : ℕ → List ℕ
 high_places n =

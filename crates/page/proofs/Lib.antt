@@ -1,2 +1,4 @@
 pub mod InLimits
 pub mod Lookup
+mod Signed
+mod Ranges

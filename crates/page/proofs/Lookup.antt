@@ -1,4 +1,4 @@
--- A byte's eight steps are one look-up: `looked-up`. The steps from two registers t and t xor d, where the second is given the bits
+-- A byte's eight steps are one look-up: `looked_up`. The steps from two registers t and t xor d, where the second is given the bits
 -- that d shifts out, differ by what is left of d; so the high byte goes in with the data byte and the low byte is shifted alone.
 -- Assumes nothing.
 use mathlib.Core.Path.{◌≡◌, refl, sym, ap, ap₂, ◌∙◌}
@@ -135,13 +135,13 @@ entry (suc n) i zero h = rw (add-zero i)
 entry (suc n) i (suc k) h = let e : suc i + k ≡ i + suc k = omega arith in rw e at (entry n (suc i) k (omega arith))
 
 -- the place that is read
-pub place-small : (crc byte : ℕ) → crc < 2 ^ 16 → byte < 2 ^ 8 → bit_xor (crc / 2 ^ 8) byte < 2 ^ 8
-place-small crc byte hc hb = xor_lt 8 (crc / 2 ^ 8) byte (omega arith) hb
+pub place_small : (crc byte : ℕ) → crc < 2 ^ 16 → byte < 2 ^ 8 → bit_xor (crc / 2 ^ 8) byte < 2 ^ 8
+place_small crc byte hc hb = xor_lt 8 (crc / 2 ^ 8) byte (omega arith) hb
 
 -- A byte's eight steps are one look-up.
-pub looked-up : (crc byte : ℕ) → crc < 2 ^ 16 → byte < 2 ^ 8 → bit_xor (crc * 2 ^ 8 % 2 ^ 16) (get_or (steps 256 0) (bit_xor (crc / 2 ^ 8) byte) 0) ≡ crc_byte crc byte
-looked-up crc byte hc hb =
+pub looked_up : (crc byte : ℕ) → crc < 2 ^ 16 → byte < 2 ^ 8 → bit_xor (crc * 2 ^ 8 % 2 ^ 16) (get_or (steps 256 0) (bit_xor (crc / 2 ^ 8) byte) 0) ≡ crc_byte crc byte
+looked_up crc byte hc hb =
     ap (bit_xor (crc * 2 ^ 8 % 2 ^ 16))
-    (entry 256 0 (bit_xor (crc / 2 ^ 8) byte) (place-small crc byte hc hb)
+    (entry 256 0 (bit_xor (crc / 2 ^ 8) byte) (place_small crc byte hc hb)
     ∙ ap (λ (i : ℕ). crc_byte (i * 2 ^ 8) 0) (zero-add (bit_xor (crc / 2 ^ 8) byte)))
     ∙ steps-from-high crc byte hc hb

@@ -5,6 +5,7 @@ ghost use Rattle.page.specs.Crc.{crc_byte, crc_of, steps};
 use crate::table::STEPS;
 
 // One byte, most significant bit first: its eight steps are one look-up.
+#[tactic(auto, using(crate::proofs::Lookup::place_small, crate::proofs::Lookup::looked_up))]
 fn crc_byte(table: &[u16; 256], crc: u16, byte: u8) -> u16
     requires { table.now ≡ steps 256 0 }
     ensures { result ≡ crc_byte crc byte }
@@ -19,10 +20,8 @@ fn crc_by(table: &[u16; 256], s: &[u8]) -> u16
     ensures { result ≡ crc_of s.now }
 {
     let mut r: u16 = 0x4f4e;
-    let mut i = 0;
-    while i < s.len() {
-        r = crc_byte(table, r, s[i]);
-        i += 1;
+    for &byte in s {
+        r = crc_byte(table, r, byte);
     }
     r
 }
@@ -39,8 +38,5 @@ pub fn crc_of(s: &[u8]) -> u16
 pub fn page_crc(page: &[u8]) -> u16
     ensures { result ≡ crc_of (take 254 page.now) }
 {
-    if page.len() < 254 {
-        return crc_of(page);
-    }
-    crc_of(&page[..254])
+    crc_of(&page[..page.len().min(254)])
 }

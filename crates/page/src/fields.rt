@@ -1,4 +1,6 @@
 // The fields of the page, least significant byte first.
+#![tactic(auto, unfolding(crate::specs::Page::field, crate::specs::Page::bit_of, crate::specs::Page::features, crate::specs::Page::optional_commands, crate::specs::Page::maker_id, crate::specs::Page::data_bytes, crate::specs::Page::spare_bytes, crate::specs::Page::pages_a_block, crate::specs::Page::blocks_a_lun, crate::specs::Page::lun_count, crate::specs::Page::address_cycles, crate::specs::Page::programs_a_page, crate::specs::Page::stored_crc))]
+
 ghost use Rattle.std.specs.Prelude.{◌≡◌};
 ghost use Rattle.page.specs.Page.{field, bit_of, features, optional_commands, maker_id, data_bytes, spare_bytes, pages_a_block, blocks_a_lun, lun_count, address_cycles, programs_a_page, stored_crc};
 
@@ -10,27 +12,24 @@ pub fn field_1(page: &[u8], at: u8) -> u8
     byte_at(page, at as usize)
 }
 
+// Two functions for two widths, since their results differ in type, and each is one call of std.
 pub fn field_2(page: &[u8], at: u8) -> u16
     ensures { result ≡ field page.now at 2 }
 {
     let i = at as usize;
-    let low = byte_at(page, i) as u16;
-    let high = byte_at(page, i + 1) as u16;
-    low + 256 * high
+    u16::from_le_bytes([byte_at(page, i), byte_at(page, i + 1)])
 }
 
 pub fn field_4(page: &[u8], at: u8) -> usize
     ensures { result ≡ field page.now at 4 }
 {
     let i = at as usize;
-    let j = i + 1;
-    let k = j + 1;
-    let l = k + 1;
-    let a = byte_at(page, i) as usize;
-    let b = byte_at(page, j) as usize;
-    let c = byte_at(page, k) as usize;
-    let d = byte_at(page, l) as usize;
-    a + 256 * (b + 256 * (c + 256 * d))
+    u32::from_le_bytes([
+        byte_at(page, i),
+        byte_at(page, i + 1),
+        byte_at(page, i + 2),
+        byte_at(page, i + 3),
+    ]) as usize
 }
 
 pub fn features(page: &[u8]) -> u16
@@ -103,5 +102,5 @@ pub fn stored_crc(page: &[u8]) -> u16
 pub fn bit_of(x: u16, k: u16) -> bool
     ensures { result ≡ bit_of x k }
 {
-    if k < 16 { (x >> k) % 2 == 1 } else { false }
+    k < 16 && (x >> k) % 2 == 1
 }

@@ -1,30 +1,17 @@
--- Which answer the tests pick.
+-- Which copy the tests pick.
 -- Assumes nothing.
-use mathlib.Core.Path.{◌≡◌}
-use mathlib.Core.Bool.{true, false, not}
-use mathlib.Core.List.{List}
-use Prim.Native.Nat.{ℕ}
-use lib.Dec.{eqb}
-use lib.ListN.{length}
-use Rattle.page_check.specs.Check.{copy, good, nothing, on_copy, checked_of}
-use Rattle.page_check.specs.declared.Found.TheVariants.{Length, NoGoodCopy}
+use Rattle.std.proofs.Common.{◌≡◌, ℕ, zero, suc, ◌<◌, List, true, false, length, arith, Ok, Err}
+use Rattle.std.proofs.lemmas.Bool.{eq-eqb}
+use Rattle.page_check.specs.Check.{copy, good, on_copy, checked_of}
+use Rattle.page_check.specs.declared.Unchecked.TheVariants.{NoGoodCopy}
 
-pub other_length : (answer : List ℕ) → not (eqb (length answer) 768) ≡ true → nothing Length ≡ checked_of answer
+pub chosen : (answer : List ℕ) (k : ℕ) → length answer ≡ 768 → k < 3 → ((j : ℕ) → j < k → good (copy answer j) ≡ false) → good (copy answer k) ≡ true → Ok (on_copy k (copy answer k)) ≡ checked_of answer
 unfolding checked_of
-other_length answer h = rw (h)
+chosen answer zero long three before h = rw (eq-eqb _ _ long, h)
+chosen answer (suc zero) long three before h = rw (eq-eqb _ _ long, before 0 (omega arith), h)
+chosen answer (suc (suc zero)) long three before h = rw (eq-eqb _ _ long, before 0 (omega arith), before 1 (omega arith), h)
+chosen answer (suc (suc (suc k))) long three before h = absurd (omega arith)
 
-pub chosen-0 : (answer : List ℕ) → not (eqb (length answer) 768) ≡ false → good (copy answer 0) ≡ true → on_copy 0 (copy answer 0) ≡ checked_of answer
+pub none_good : (answer : List ℕ) → length answer ≡ 768 → ((j : ℕ) → j < 3 → good (copy answer j) ≡ false) → Err NoGoodCopy ≡ checked_of answer
 unfolding checked_of
-chosen-0 answer h g0 = rw (h, g0)
-
-pub chosen-1 : (answer : List ℕ) → not (eqb (length answer) 768) ≡ false → good (copy answer 0) ≡ false → good (copy answer 1) ≡ true → on_copy 1 (copy answer 1) ≡ checked_of answer
-unfolding checked_of
-chosen-1 answer h g0 g1 = rw (h, g0, g1)
-
-pub chosen-2 : (answer : List ℕ) → not (eqb (length answer) 768) ≡ false → good (copy answer 0) ≡ false → good (copy answer 1) ≡ false → good (copy answer 2) ≡ true → on_copy 2 (copy answer 2) ≡ checked_of answer
-unfolding checked_of
-chosen-2 answer h g0 g1 g2 = rw (h, g0, g1, g2)
-
-pub none-good : (answer : List ℕ) → not (eqb (length answer) 768) ≡ false → good (copy answer 0) ≡ false → good (copy answer 1) ≡ false → good (copy answer 2) ≡ false → nothing NoGoodCopy ≡ checked_of answer
-unfolding checked_of
-none-good answer h g0 g1 g2 = rw (h, g0, g1, g2)
+none_good answer long before = rw (eq-eqb _ _ long, before 0 (omega arith), before 1 (omega arith), before 2 (omega arith))

@@ -9,9 +9,10 @@ use native.Mathlib.Omega.{arith}
 use borrow.Author.Tests.{lt-ltb, ltb-true, eqb-true, not-false}
 use lib.Dec.{eqb, ltb}
 use lib.ListN.{length}
-use Rattle.page_check.specs.Check.{copy, good, data_broken, pages_broken, luns_broken, multiplier_broken, programs_broken, listed, broken_rules, nothing, on_copy, checked_of}
-use Rattle.page_check.specs.declared.Found.{Found}
-use Rattle.page_check.specs.declared.Found.TheVariants.{Length, NoGoodCopy, Copy}
+use Rattle.std.specs.Prelude.{Result, Ok, Err}
+use Rattle.page_check.specs.Check.{copy, good, data_broken, pages_broken, luns_broken, multiplier_broken, programs_broken, listed, broken_rules, on_copy, checked_of}
+use Rattle.page_check.specs.declared.Unchecked.{Unchecked}
+use Rattle.page_check.specs.declared.Unchecked.TheVariants.{Length, NoGoodCopy}
 use Rattle.page_check.specs.declared.Checked.{Checked}
 
 -- a byte stands in a list
@@ -76,33 +77,37 @@ rising page =
     (rises-listed 106 110 (programs_broken page) _ (omega arith)
     (rises-none 110)))))
 
--- what is found, by the tests alone
-abbrev found_by : Bool → Bool → Bool → Bool → Found
-found_by h a b c = cond h Length (cond a (Copy 0) (cond b (Copy 1) (cond c (Copy 2) NoGoodCopy)))
+-- which copy is picked, or why none
+abbrev pub picked : Result Checked Unchecked → Result ℕ Unchecked
+picked (Ok c) = Ok c.copy
+picked (Err why) = Err why
 
-of-chosen : (h a b c : Bool) (x p q r y : Checked) → (cond h x (cond a p (cond b q (cond c r y)))).found ≡ cond h x.found (cond a p.found (cond b q.found (cond c r.found y.found)))
+-- the same, by the tests alone
+abbrev picked_by : Bool → Bool → Bool → Bool → Result ℕ Unchecked
+picked_by h a b c = cond h (Err Length) (cond a (Ok 0) (cond b (Ok 1) (cond c (Ok 2) (Err NoGoodCopy))))
+
+of-chosen : (h a b c : Bool) (x p q r y : Result Checked Unchecked) → picked (cond h x (cond a p (cond b q (cond c r y)))) ≡ cond h (picked x) (cond a (picked p) (cond b (picked q) (cond c (picked r) (picked y))))
 of-chosen true a b c x p q r y = refl
 of-chosen false true b c x p q r y = refl
 of-chosen false false true c x p q r y = refl
 of-chosen false false false true x p q r y = refl
 of-chosen false false false false x p q r y = refl
 
-found-by : (answer : List ℕ) → (checked_of answer).found ≡ found_by (not (eqb (length answer) 768)) (good (copy answer 0)) (good (copy answer 1)) (good (copy answer 2))
+picked-by : (answer : List ℕ) → picked (checked_of answer) ≡ picked_by (not (eqb (length answer) 768)) (good (copy answer 0)) (good (copy answer 1)) (good (copy answer 2))
 unfolding checked_of on_copy
-found-by answer =
+picked-by answer =
     of-chosen (not (eqb (length answer) 768)) (good (copy answer 0)) (good (copy answer 1)) (good (copy answer 2))
-    (nothing Length) (on_copy 0 (copy answer 0)) (on_copy 1 (copy answer 1)) (on_copy 2 (copy answer 2)) (nothing NoGoodCopy)
+    (Err Length) (Ok (on_copy 0 (copy answer 0))) (Ok (on_copy 1 (copy answer 1))) (Ok (on_copy 2 (copy answer 2))) (Err NoGoodCopy)
 
 -- the three kinds apart, and a copy's number
-kind : Found → ℕ
-kind Length = 0
-kind NoGoodCopy = 1
-kind (Copy k) = 2
+kind : Result ℕ Unchecked → ℕ
+kind (Err Length) = 0
+kind (Err NoGoodCopy) = 1
+kind (Ok k) = 2
 
-number : Found → ℕ
-number Length = 0
-number NoGoodCopy = 0
-number (Copy k) = k
+number : Result ℕ Unchecked → ℕ
+number (Err why) = 0
+number (Ok k) = k
 
 -- the answer is of the right length, and no copy of it is good
 pub record NoneGood (answer : List ℕ) : Type 0 where
@@ -117,7 +122,7 @@ record Four (h a b c : Bool) : Type 0 where
   3rd : b ≡ false
   4th : c ≡ false
 
-all-false : (h a b c : Bool) → found_by h a b c ≡ NoGoodCopy → Four h a b c
+all-false : (h a b c : Bool) → picked_by h a b c ≡ Err NoGoodCopy → Four h a b c
 unfolding kind
 all-false true a b c e = absurd (let z = ap kind e in omega arith)
 all-false false true b c e = absurd (let z = ap kind e in omega arith)
@@ -126,9 +131,9 @@ all-false false false false true e = absurd (let z = ap kind e in omega arith)
 all-false false false false false e = record { 1st = refl; 2nd = refl; 3rd = refl; 4th = refl }
 
 -- no good copy is answered only then
-pub only_then : (answer : List ℕ) → (checked_of answer).found ≡ NoGoodCopy → NoneGood answer
+pub only_then : (answer : List ℕ) → picked (checked_of answer) ≡ Err NoGoodCopy → NoneGood answer
 only_then answer e =
-    let f = all-false (not (eqb (length answer) 768)) (good (copy answer 0)) (good (copy answer 1)) (good (copy answer 2)) (sym (found-by answer) ∙ e) in
+    let f = all-false (not (eqb (length answer) 768)) (good (copy answer 0)) (good (copy answer 1)) (good (copy answer 2)) (sym (picked-by answer) ∙ e) in
     record {
       right-length = eqb-true (length answer) 768 (not-false (eqb (length answer) 768) f.1st);
       bad-0 = f.2nd;
@@ -151,7 +156,7 @@ two g a b zero l = a
 two g a b (suc zero) l = b
 two g a b (suc (suc j)) l = absurd (omega arith)
 
-first-of : (answer : List ℕ) (h a b c : Bool) (k : ℕ) → good (copy answer 0) ≡ a → good (copy answer 1) ≡ b → good (copy answer 2) ≡ c → found_by h a b c ≡ Copy k → FirstGood answer k
+first-of : (answer : List ℕ) (h a b c : Bool) (k : ℕ) → good (copy answer 0) ≡ a → good (copy answer 1) ≡ b → good (copy answer 2) ≡ c → picked_by h a b c ≡ Ok k → FirstGood answer k
 unfolding kind number
 first-of answer true a b c k x y z e = absurd (let n = ap kind e in omega arith)
 first-of answer false true b c k x y z e =
@@ -166,6 +171,6 @@ first-of answer false false false true k x y z e =
 first-of answer false false false false k x y z e = absurd (let n = ap kind e in omega arith)
 
 -- the first good copy is the one that is picked
-pub first_good : (answer : List ℕ) (k : ℕ) → (checked_of answer).found ≡ Copy k → FirstGood answer k
+pub first_good : (answer : List ℕ) (k : ℕ) → picked (checked_of answer) ≡ Ok k → FirstGood answer k
 first_good answer k e =
-    first-of answer (not (eqb (length answer) 768)) (good (copy answer 0)) (good (copy answer 1)) (good (copy answer 2)) k refl refl refl (sym (found-by answer) ∙ e)
+    first-of answer (not (eqb (length answer) 768)) (good (copy answer 0)) (good (copy answer 1)) (good (copy answer 2)) k refl refl refl (sym (picked-by answer) ∙ e)

@@ -1,6 +1,4 @@
 pub mod Ten
 pub mod Listing
-pub mod Nine
-pub mod Chosen
-pub mod Told
 pub mod Exactly
+mod Chosen

@@ -1,13 +1,11 @@
 -- The checker for other people's parameter pages (document 02, A8). Of the 768 bytes that a part answers to ECh, the first copy with
 -- good signature and CRC is picked, and every broken rule listed in byte order; it also has block endurance.
-use Rattle.std.specs.Prelude.{ℕ, zero, suc, ◌+◌, ◌*◌, ◌%◌, ◌^◌, Bool, true, false, ◌&&◌, ◌||◌, not, cond, List, [], ◌∷◌, eqb, leb, ltb, length, take, drop, set}
+use Rattle.std.specs.Prelude.{ℕ, zero, suc, ◌+◌, ◌*◌, ◌%◌, ◌^◌, Bool, true, false, ◌&&◌, ◌||◌, not, cond, List, [], ◌∷◌, eqb, leb, ltb, length, take, drop, set, Option, None, Some, Result, Ok, Err}
 use Rattle.page.specs.Page.{field, signed, crc_good, data_bytes, pages_a_block, lun_count, programs_a_page}
-use Rattle.page_check.specs.declared.Found.{Found}
-use Rattle.page_check.specs.declared.Found.TheVariants.{Length, NoGoodCopy, Copy}
+use Rattle.page_check.specs.declared.Unchecked.{Unchecked}
+use Rattle.page_check.specs.declared.Unchecked.TheVariants.{Length, NoGoodCopy}
 use Rattle.page_check.specs.declared.Checked.{Checked}
 use Rattle.page_check.specs.declared.page_rules.Broken.{Broken}
-use Rattle.page_check.specs.declared.endurance.Endurance.{Endurance}
-use Rattle.page_check.specs.declared.endurance.Endurance.TheVariants.{Nothing, Cycles}
 
 -- 105, and 106
 unfoldable pub endurance_value : List ℕ → ℕ
@@ -79,21 +77,18 @@ added b broken byte =
     cond (broken && ltb b.count 5) (record { count = b.count + 1; bytes = set b.bytes b.count byte }) b
 
 -- block endurance, value times ten to the multiplier; a multiplier above 16 has none
-unfoldable pub endurance_of : List ℕ → Endurance
-endurance_of page = cond (leb (multiplier page) 16) (Cycles (endurance_value page * 10 ^ multiplier page)) Nothing
+unfoldable pub endurance_of : List ℕ → Option ℕ
+endurance_of page = cond (leb (multiplier page) 16) (Some (endurance_value page * 10 ^ multiplier page)) None
 
--- what there is to say where no copy is looked at, and of the copy that is
-abbrev pub nothing : Found → Checked
-nothing why = record { found = why; broken = laid []; endurance = Nothing }
-
+-- what there is to say of a copy
 unfoldable pub on_copy : ℕ → List ℕ → Checked
-on_copy k page = record { found = Copy k; broken = laid (broken_rules page); endurance = endurance_of page }
+on_copy k page = record { copy = k; broken = laid (broken_rules page); endurance = endurance_of page }
 
 -- another length is answered as that; the first good copy is picked; no good copy is its own answer
-unfoldable pub checked_of : List ℕ → Checked
+unfoldable pub checked_of : List ℕ → Result Checked Unchecked
 checked_of answer =
-    cond (not (eqb (length answer) 768)) (nothing Length)
-    (cond (good (copy answer 0)) (on_copy 0 (copy answer 0))
-    (cond (good (copy answer 1)) (on_copy 1 (copy answer 1))
-    (cond (good (copy answer 2)) (on_copy 2 (copy answer 2))
-    (nothing NoGoodCopy))))
+    cond (not (eqb (length answer) 768)) (Err Length)
+    (cond (good (copy answer 0)) (Ok (on_copy 0 (copy answer 0)))
+    (cond (good (copy answer 1)) (Ok (on_copy 1 (copy answer 1)))
+    (cond (good (copy answer 2)) (Ok (on_copy 2 (copy answer 2)))
+    (Err NoGoodCopy))))

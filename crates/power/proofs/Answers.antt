@@ -1,30 +1,28 @@
 -- The first rule that holds, read from the top; the limits of a page's geometry; what an accepted power-on has passed.
 -- Assumes nothing.
-use mathlib.Core.Path.{◌≡◌, refl, sym, ap, ◌∙◌}
+use mathlib.Core.Path.{◌≡◌, refl, sym, ◌∙◌}
 use mathlib.Core.Bool.{Bool, true, false, ◌&&◌, ◌||◌, not, true≢false}
 use mathlib.Core.List.{List}
 use Prim.Native.Nat.{ℕ, ◌≤◌}
 use native.Mathlib.Omega.{arith}
+use Rattle.std.specs.Prelude.{Result, Ok, Err}
 use lib.Dec.{leb}
 use lib.ListN.{length}
 use borrow.Author.Tests.{le-leb, leb-false, not-false}
 use Rattle.page.specs.Page as page
 use Rattle.page.specs.Page.{fields_in_limits, features, data_bytes, spare_bytes, pages_a_block, blocks_a_lun, lun_count, programs_a_page}
 use Rattle.page.proofs.InLimits.{limits}
-use Rattle.target.specs.Sizes.{within, in_limits, sized}
+use Rattle.target.specs.Sizes.{within, in_limits}
 use Rattle.target.specs.Words as target
 use Rattle.target.specs.Words.{has_feature}
-use Rattle.target.specs.declared.Geometry.{Geometry}
 use Rattle.power.specs.Power.{geometry_of, words_of, wrong_length, unsigned, crc_bad, field_bad, buffer_bad, content_bad, or_refused, power_answer, Powering, power_of}
 use Rattle.power.specs.declared.PowerRefusal.{PowerRefusal}
-use Rattle.power.specs.declared.PowerAnswer.{PowerAnswer}
-use Rattle.power.specs.declared.PowerAnswer.TheVariants.{Accepted, Refused}
 
-pub here : (b : Bool) (r : PowerRefusal) (a : PowerAnswer) → b ≡ true → Refused r ≡ or_refused b r a
+pub here : (b : Bool) (r : PowerRefusal) (a : Result Unit PowerRefusal) → b ≡ true → Err r ≡ or_refused b r a
 unfolding or_refused
 here b r a h = rw h
 
-pub later : {x : PowerAnswer} (b : Bool) (r : PowerRefusal) (a : PowerAnswer) → b ≡ false → x ≡ a → x ≡ or_refused b r a
+pub later : {x : Result Unit PowerRefusal} (b : Bool) (r : PowerRefusal) (a : Result Unit PowerRefusal) → b ≡ false → x ≡ a → x ≡ or_refused b r a
 unfolding or_refused
 later b r a h e = rw (h) e
 
@@ -65,9 +63,6 @@ worded page h =
     wide-or-narrow _ (leb (lun_count page) 1) _ (same_bit (features page) 0 ∙ f.bus)
     (λ many. same_bit (features page) 1 ∙ f.luns-many (leb-false (lun_count page) 1 many))
 
-pub sized-alike : (g h : Geometry) (array registers counts flags : ℕ) → g ≡ h → sized g array registers counts flags ≡ sized h array registers counts flags
-sized-alike g h array registers counts flags e = ap (λ (x : Geometry). sized x array registers counts flags) e
-
 -- an accepted power-on passed each rule
 pub record Passed (page : List ℕ) (array registers : ℕ) (counts flags : List ℕ) : Type 0 where
   pub right-length : wrong_length page ≡ false
@@ -77,12 +72,12 @@ pub record Passed (page : List ℕ) (array registers : ℕ) (counts flags : List
   pub buffers : buffer_bad page array registers (length counts) (length flags) ≡ false
   pub content : content_bad page counts flags ≡ false
 
-passed : (b : Bool) (r : PowerRefusal) (a : PowerAnswer) → or_refused b r a ≡ Accepted → (b ≡ false) × (a ≡ Accepted)
+passed : (b : Bool) (r : PowerRefusal) (a : Result Unit PowerRefusal) → or_refused b r a ≡ Ok tt → (b ≡ false) × (a ≡ Ok tt)
 unfolding or_refused
 passed true r a h = let z : ◌≡◌ {A = ℕ} 0 1 = cc in absurd (omega arith)
 passed false r a h = (refl, h)
 
-pub all-passed : (page : List ℕ) (array registers : ℕ) (counts flags : List ℕ) → power_answer page array registers counts flags ≡ Accepted → Passed page array registers counts flags
+pub all-passed : (page : List ℕ) (array registers : ℕ) (counts flags : List ℕ) → power_answer page array registers counts flags ≡ Ok tt → Passed page array registers counts flags
 unfolding power_answer
 all-passed page array registers counts flags h =
     let a = passed _ _ _ h in
@@ -94,7 +89,7 @@ all-passed page array registers counts flags h =
     record { right-length = a.0; signature = b.0; crc = c.0; fields = d.0; buffers = e.0; content = f.0 }
 
 -- so its fields are within the limits
-pub accepted-limited : (page : List ℕ) (array registers : ℕ) (counts flags : List ℕ) → power_answer page array registers counts flags ≡ Accepted → fields_in_limits page ≡ true
+pub accepted-limited : (page : List ℕ) (array registers : ℕ) (counts flags : List ℕ) → power_answer page array registers counts flags ≡ Ok tt → fields_in_limits page ≡ true
 unfolding field_bad
 accepted-limited page array registers counts flags h = not-false _ (all-passed page array registers counts flags h).fields
 

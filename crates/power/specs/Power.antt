@@ -1,5 +1,5 @@
 -- Power-on (document 01, "Power-on and the parameter page"; document 02, A7).
-use Rattle.std.specs.Prelude.{Bool, true, false, ◌&&◌, not, List, [], ◌∷◌, ℕ, length, replicate, eqb, ltb}
+use Rattle.std.specs.Prelude.{Result, Ok, Err, Bool, true, false, ◌&&◌, not, List, [], ◌∷◌, ℕ, length, replicate, eqb, ltb}
 use Rattle.slices.specs.Cells.{all_at_most}
 use Rattle.page.specs.Page.{signed, crc_good, fields_in_limits, features, optional_commands, maker_id, data_bytes, spare_bytes, pages_a_block, blocks_a_lun, lun_count, programs_a_page}
 use Rattle.target.specs.Pick.{pick}
@@ -13,19 +13,21 @@ use Rattle.target.specs.declared.Target.{Target}
 use Rattle.target.specs.declared.Sequence.TheVariants as sequence
 use Rattle.target.specs.declared.Output.TheVariants as output
 use Rattle.power.specs.declared.PowerRefusal.{PowerRefusal}
+use Rattle.power.specs.declared.NotPowered.{NotPowered}
 use Rattle.power.specs.declared.PowerRefusal.TheVariants.{PageLength, Signature, Crc, Field, BufferLength, Content}
-use Rattle.power.specs.declared.PowerAnswer.{PowerAnswer}
-use Rattle.power.specs.declared.PowerAnswer.TheVariants.{Accepted, Refused}
 
 -- document 01's numbers: 0 stands for a success
-abbrev pub power_number : PowerAnswer → ℕ
-power_number Accepted = 0
-power_number (Refused PageLength) = 20
-power_number (Refused Signature) = 21
-power_number (Refused Crc) = 22
-power_number (Refused Field) = 23
-power_number (Refused BufferLength) = 24
-power_number (Refused Content) = 25
+abbrev pub refusal_number : PowerRefusal → ℕ
+refusal_number PageLength = 20
+refusal_number Signature = 21
+refusal_number Crc = 22
+refusal_number Field = 23
+refusal_number BufferLength = 24
+refusal_number Content = 25
+
+abbrev pub power_number : Result Unit PowerRefusal → ℕ
+power_number (Ok done) = 0
+power_number (Err r) = refusal_number r
 
 -- the fields that the record keeps: sizes, words and IDs
 unfoldable pub geometry_of : List ℕ → Geometry
@@ -108,11 +110,11 @@ unfoldable pub content_bad : List ℕ → List ℕ → List ℕ → Bool
 content_bad page counts flags = not (all_at_most (programs_a_page page) counts && all_at_most 1 flags)
 
 -- the refusal where its rule holds, else what the later rules say
-unfoldable pub or_refused : Bool → PowerRefusal → PowerAnswer → PowerAnswer
-or_refused b r a = pick b (Refused r) a
+unfoldable pub or_refused : Bool → PowerRefusal → Result Unit PowerRefusal → Result Unit PowerRefusal
+or_refused b r a = pick b (Err r) a
 
 -- lowest first
-unfoldable pub power_answer : List ℕ → ℕ → ℕ → List ℕ → List ℕ → PowerAnswer
+unfoldable pub power_answer : List ℕ → ℕ → ℕ → List ℕ → List ℕ → Result Unit PowerRefusal
 power_answer page array registers counts flags =
     or_refused (wrong_length page) PageLength
     (or_refused (unsigned page) Signature
@@ -120,23 +122,28 @@ power_answer page array registers counts flags =
     (or_refused (field_bad page) Field
     (or_refused (buffer_bad page array registers (length counts) (length flags)) BufferLength
     (or_refused (content_bad page counts flags) Content
-    Accepted)))))
+    (Ok tt))))))
 
 -- power-on, whole: the answer, the record, and the registers; no other lent buffer can change
 pub record Powering : Type 0 where
-  pub answer : PowerAnswer
+  pub answer : Result Unit PowerRefusal
   pub target : Target
   pub registers : List ℕ
 
 -- success fills the registers with FFh; a refusal changes no lent byte and gives an unpowered target
-abbrev pub powering : PowerAnswer → List ℕ → ℕ → List ℕ → List ℕ → List ℕ → Powering
-powering Accepted page device registers counts flags = record {
-  answer = Accepted;
+abbrev pub powering : Result Unit PowerRefusal → List ℕ → ℕ → List ℕ → List ℕ → List ℕ → Powering
+powering (Ok done) page device registers counts flags = record {
+  answer = Ok tt;
   target = powered_of page device counts flags;
   registers = replicate (length registers) 0xff;
 }
-powering (Refused r) page device registers counts flags = record { answer = Refused r; target = unpowered; registers = registers }
+powering (Err r) page device registers counts flags = record { answer = Err r; target = unpowered; registers = registers }
 
 unfoldable pub power_of : List ℕ → ℕ → List ℕ → List ℕ → List ℕ → List ℕ → Powering
 power_of page device array registers counts flags =
     powering (power_answer page (length array) (length registers) counts flags) page device registers counts flags
+
+-- what power-on gives, and the registers after it
+abbrev pub told : Result Target NotPowered → List ℕ → Powering
+told (Ok t) registers = record { answer = Ok tt; target = t; registers = registers }
+told (Err e) registers = record { answer = Err e.why; target = e.target; registers = registers }

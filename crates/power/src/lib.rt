@@ -1,11 +1,10 @@
 // Power-on: from a parameter page and the lent buffers to a powered target, or to the right refusal.
-#![tactic(auto)]
+#![tactic(auto, unfolding(crate::specs::Power::geometry_of, crate::specs::Power::words_of, crate::specs::Power::walked, crate::specs::Power::powered_of, crate::specs::Power::unpowered, crate::specs::Power::wrong_length, crate::specs::Power::unsigned, crate::specs::Power::crc_bad, crate::specs::Power::field_bad, crate::specs::Power::buffer_bad, crate::specs::Power::content_bad, crate::specs::Power::or_refused, crate::specs::Power::power_answer, crate::specs::Power::power_of))]
 
-ghost use Rattle.std.specs.Prelude.{◌≡◌, true, ◌≤◌, length};
-ghost use Rattle.slices.specs.Cells.{all_at_most};
+ghost use Rattle.std.specs.Prelude.{◌≡◌, true};
 ghost use Rattle.target.specs.Sizes.{in_limits};
-ghost use Rattle.page.specs.Page.{fields_in_limits, programs_a_page};
-ghost use Rattle.power.specs.Power.{power_number, geometry_of, words_of, walked, lun_found, luns_found, powered_of, unpowered, content_bad, power_answer, Powering, power_of};
+ghost use Rattle.page.specs.Page.{fields_in_limits};
+ghost use Rattle.power.specs.Power.{refusal_number, power_number, geometry_of, words_of, walked, luns_found, powered_of, unpowered, power_answer, told, power_of};
 
 use blocks::blank_blocks;
 use page::fields::{
@@ -13,7 +12,7 @@ use page::fields::{
     programs_a_page, spare_bytes,
 };
 use page::limits::{crc_good, fields_in_limits, is_signed};
-use slices::{at_most, fill};
+use slices::at_most;
 use target::records::lun_ready;
 use target::sizes::sized;
 use target::{Decoder, Geometry, Ids, Lun, Luns, Output, Sequence, Target, Words};
@@ -34,32 +33,36 @@ pub enum PowerRefusal {
     Content,
 }
 
-#[derive(Clone, Copy)]
-pub enum PowerAnswer {
-    Accepted,
-    Refused(PowerRefusal),
-}
-
-#[derive(Clone, Copy)]
-pub struct Powered {
-    pub answer: PowerAnswer,
-    pub target: Target,
-}
-
-// Document 01's number of an answer, 0 for a success.
-pub fn power_number(a: PowerAnswer) -> u8
-    ensures { result ≡ power_number a }
-{
-    match a {
-        PowerAnswer::Accepted => 0,
-        PowerAnswer::Refused(r) => match r {
+impl PowerRefusal {
+    // Its number, 20 to 25.
+    pub fn number(self) -> u8
+        ensures { result ≡ refusal_number self }
+    {
+        match self {
             PowerRefusal::PageLength => 20,
             PowerRefusal::Signature => 21,
             PowerRefusal::Crc => 22,
             PowerRefusal::Field => 23,
             PowerRefusal::BufferLength => 24,
             PowerRefusal::Content => 25,
-        },
+        }
+    }
+}
+
+// A refused power-on: why, and the target that its host has then, which is unpowered.
+#[derive(Clone, Copy)]
+pub struct NotPowered {
+    pub why: PowerRefusal,
+    pub target: Target,
+}
+
+// The number of an answer, 0 for a success.
+pub fn power_number(answer: Result<(), PowerRefusal>) -> u8
+    ensures { result ≡ power_number answer }
+{
+    match answer {
+        Ok(()) => 0,
+        Err(why) => why.number(),
     }
 }
 
@@ -99,52 +102,43 @@ pub fn walked(g: Geometry, counts: &[u8], flags: &[u8], l: usize) -> u16
     }
 }
 
-fn lun_found(g: Geometry, counts: &[u8], flags: &[u8], l: usize) -> Lun
-    requires { in_limits g ≡ true }
-    ensures { result ≡ lun_found g counts.now flags.now l }
-{
-    lun_ready(walked(g, counts, flags, l))
-}
-
 // Every LUN ready, with its blank blocks counted.
 fn luns_found(g: Geometry, counts: &[u8], flags: &[u8]) -> Luns
     requires { in_limits g ≡ true }
     ensures { result ≡ luns_found g counts.now flags.now }
 {
-    let a = lun_found(g, counts, flags, 0);
-    let b = lun_found(g, counts, flags, 1);
-    let c = lun_found(g, counts, flags, 2);
-    let d = lun_found(g, counts, flags, 3);
-    [a, b, c, d]
+    [
+        lun_ready(walked(g, counts, flags, 0)),
+        lun_ready(walked(g, counts, flags, 1)),
+        lun_ready(walked(g, counts, flags, 2)),
+        lun_ready(walked(g, counts, flags, 3)),
+    ]
 }
 
+#[tactic(auto, using(crate::proofs::Answers::limited), unfolding(crate::specs::Power::powered_of))]
 pub fn powered_of(page: &[u8], device: u8, counts: &[u8], flags: &[u8]) -> Target
     requires { fields_in_limits page.now ≡ true }
     ensures { result ≡ powered_of page.now device counts.now flags.now }
 {
     let geometry = geometry_of(page);
-    let luns = luns_found(geometry, counts, flags);
-    let words = words_of(page);
-    let ids = Ids {
-        maker: maker_id(page),
-        device,
-    };
-    let decoder = Decoder {
-        sequence: Sequence::Idle,
-        output: Output::Nothing,
-        kept: Output::Nothing,
-    };
     Target {
         powered: true,
         geometry,
-        words,
-        ids,
+        words: words_of(page),
+        ids: Ids {
+            maker: maker_id(page),
+            device,
+        },
         high: true,
         clear: false,
         seen: false,
         selected: 0,
-        luns,
-        decoder,
+        luns: luns_found(geometry, counts, flags),
+        decoder: Decoder {
+            sequence: Sequence::Idle,
+            output: Output::Nothing,
+            kept: Output::Nothing,
+        },
     }
 }
 
@@ -152,49 +146,35 @@ pub fn powered_of(page: &[u8], device: u8, counts: &[u8], flags: &[u8]) -> Targe
 pub fn unpowered() -> Target
     ensures { result ≡ unpowered }
 {
-    let geometry = Geometry {
-        bytes: 0,
-        spare: 0,
-        pages: 0,
-        blocks: 0,
-        luns: 0,
-        programs: 0,
-    };
-    let words = Words {
-        features: 0,
-        optional: 0,
-    };
-    let ids = Ids {
-        maker: 0,
-        device: 0,
-    };
-    let unused = lun_ready(0);
-    let decoder = Decoder {
-        sequence: Sequence::Idle,
-        output: Output::Nothing,
-        kept: Output::Nothing,
-    };
     Target {
         powered: false,
-        geometry,
-        words,
-        ids,
+        geometry: Geometry {
+            bytes: 0,
+            spare: 0,
+            pages: 0,
+            blocks: 0,
+            luns: 0,
+            programs: 0,
+        },
+        words: Words {
+            features: 0,
+            optional: 0,
+        },
+        ids: Ids {
+            maker: 0,
+            device: 0,
+        },
         high: false,
         clear: false,
         seen: false,
         selected: 0,
-        luns: [unused, unused, unused, unused],
-        decoder,
+        luns: [lun_ready(0); 4],
+        decoder: Decoder {
+            sequence: Sequence::Idle,
+            output: Output::Nothing,
+            kept: Output::Nothing,
+        },
     }
-}
-
-// Rule 25.
-fn content_bad(page: &[u8], counts: &[u8], flags: &[u8]) -> bool
-    requires { fields_in_limits page.now ≡ true }
-    ensures { result ≡ content_bad page.now counts.now flags.now }
-{
-    let programs = programs_a_page(page);
-    !(at_most(counts, programs as u8) & at_most(flags, 1))
 }
 
 // What the rules say, lowest first.
@@ -204,32 +184,37 @@ pub fn power_answer(
     registers: usize,
     counts: &[u8],
     flags: &[u8],
-) -> PowerAnswer
+) -> Result<(), PowerRefusal>
     ensures { result ≡ power_answer page.now array registers counts.now flags.now }
 {
-    if !(page.len() == 256) {
-        return PowerAnswer::Refused(PowerRefusal::PageLength);
+    if page.len() != 256 {
+        return Err(PowerRefusal::PageLength);
     }
     if !is_signed(page) {
-        return PowerAnswer::Refused(PowerRefusal::Signature);
+        return Err(PowerRefusal::Signature);
     }
     if !crc_good(page) {
-        return PowerAnswer::Refused(PowerRefusal::Crc);
+        return Err(PowerRefusal::Crc);
     }
     if !fields_in_limits(page) {
-        return PowerAnswer::Refused(PowerRefusal::Field);
+        return Err(PowerRefusal::Field);
     }
-    let g = geometry_of(page);
-    if !sized(g, array, registers, counts.len(), flags.len()) {
-        return PowerAnswer::Refused(PowerRefusal::BufferLength);
+    if !sized(
+        geometry_of(page),
+        array,
+        registers,
+        counts.len(),
+        flags.len(),
+    ) {
+        return Err(PowerRefusal::BufferLength);
     }
-    if content_bad(page, counts, flags) {
-        return PowerAnswer::Refused(PowerRefusal::Content);
+    if !(at_most(counts, programs_a_page(page) as u8) && at_most(flags, 1)) {
+        return Err(PowerRefusal::Content);
     }
-    PowerAnswer::Accepted
+    Ok(())
 }
 
-// Power-on. The array, the counts and the flags are only looked at.
+// Power-on. The array, the counts and the flags are only looked at. A refusal changes no lent byte, and gives the unpowered target.
 pub fn power_on(
     page: &[u8],
     device: u8,
@@ -237,27 +222,15 @@ pub fn power_on(
     registers: &mut [u8],
     counts: &[u8],
     flags: &[u8],
-) -> Powered
-    ensures { ◌≡◌ {A = Powering}
-        (record { answer = result.answer; target = result.target; registers = registers.new })
-        (power_of page.now device array.now registers.old counts.now flags.now) }
+) -> Result<Target, NotPowered>
+    ensures { told result registers.new ≡ power_of page.now device array.now registers.old counts.now flags.now }
 {
-    let answer = power_answer(page, array.len(), registers.len(), counts, flags);
-    match answer {
-        PowerAnswer::Refused(why) => {
-            let target = unpowered();
-            Powered {
-                answer: PowerAnswer::Refused(why),
-                target,
-            }
-        }
-        PowerAnswer::Accepted => {
-            fill(registers, 0xff);
-            let target = powered_of(page, device, counts, flags);
-            Powered {
-                answer: PowerAnswer::Accepted,
-                target,
-            }
-        }
+    if let Err(why) = power_answer(page, array.len(), registers.len(), counts, flags) {
+        return Err(NotPowered {
+            why,
+            target: unpowered(),
+        });
     }
+    registers.fill(0xff);
+    Ok(powered_of(page, device, counts, flags))
 }

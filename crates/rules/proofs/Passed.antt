@@ -9,9 +9,8 @@ use Rattle.target.specs.Events.{bad_record}
 use Rattle.target.specs.declared.Event.{Event}
 use Rattle.target.specs.declared.Target.{Target}
 use Rattle.target.specs.declared.Refusal.{Refusal}
-use Rattle.target.specs.declared.Verdict.{Verdict}
-use Rattle.target.specs.declared.Verdict.TheVariants.{Accepted}
 use Rattle.rules.specs.Rules.{unknown, before_reset, misplaced, out_of_range, lun_works, no_copyback, others_busy, line_low, past_end, not_offered, not_working, line_held, rules, verdict}
+use Rattle.std.specs.Prelude.{Ok, Result}
 
 pub record Passed (t : Target) (e : Event) : Type 0 where
   pub rule-12 : bad_record e ≡ false
@@ -28,12 +27,12 @@ pub record Passed (t : Target) (e : Event) : Type 0 where
   pub rule-10 : not_working t.geometry t.luns e ≡ false
   pub rule-11 : line_held t.luns t.decoder.sequence e ≡ false
 
-passed : (b : Bool) (r : Refusal) (v : Verdict) → or_else b r v ≡ Accepted → (b ≡ false) × (v ≡ Accepted)
+passed : (b : Bool) (r : Refusal) (v : Result Unit Refusal) → or_else b r v ≡ (Ok tt) → (b ≡ false) × (v ≡ (Ok tt))
 unfolding or_else
 passed true r v h = let z : ◌≡◌ {A = ℕ} 0 1 = cc in absurd (omega arith)
 passed false r v h = (refl, h)
 
-pub all-passed : (t : Target) (e : Event) → verdict t e ≡ Accepted → Passed t e
+pub all-passed : (t : Target) (e : Event) → verdict t e ≡ (Ok tt) → Passed t e
 unfolding verdict rules
 all-passed t e h =
     let p12 = passed _ _ _ h in

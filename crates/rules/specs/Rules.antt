@@ -1,6 +1,6 @@
 -- Which rule refuses an event (document 01, "Refusal numbers"; document 02, A1 and A2): one definition for each number, and their list in the document's
 -- order. `verdict` is the first of the list that holds.
-use Rattle.std.specs.Prelude.{ℕ, Bool, true, false, ◌&&◌, ◌||◌, not, List, [], ◌∷◌, eqb, ltb, leb}
+use Rattle.std.specs.Prelude.{ℕ, Bool, true, false, ◌&&◌, ◌||◌, not, List, [], ◌∷◌, eqb, ltb, leb, None, Ok, Option, Result, Some}
 use Rattle.target.specs.Pick.{pick, or_else}
 use Rattle.target.specs.Words.{has_feature}
 use Rattle.target.specs.Sizes.{page_size, column_end}
@@ -25,18 +25,13 @@ use Rattle.target.specs.declared.commands.Looks.{Looks}
 use Rattle.target.specs.declared.commands.Looks.TheVariants as looks
 use Rattle.target.specs.declared.commands.Waits.{Waits}
 use Rattle.target.specs.declared.commands.Waits.TheVariants as waits
-use Rattle.target.specs.declared.commands.FirstFound.{FirstFound}
-use Rattle.target.specs.declared.commands.FirstFound.TheVariants as first
-use Rattle.target.specs.declared.commands.SecondFound.{SecondFound}
-use Rattle.target.specs.declared.commands.SecondFound.TheVariants as second
 use Rattle.target.specs.declared.views.Given.{Given}
 use Rattle.target.specs.declared.views.Given.TheVariants as given
 use Rattle.target.specs.declared.views.Taker.{Taker}
 use Rattle.target.specs.declared.views.Taker.TheVariants as taker
 use Rattle.target.specs.declared.Refusal.{Refusal}
 use Rattle.target.specs.declared.Refusal.TheVariants.{Unknown, BeforeReset, Misplaced, OutOfRange, LunWorks, OthersWork, Protected, PastEnd, NotOffered, NotWorking, LineHeld, BadRecord, NoCopyback}
-use Rattle.target.specs.declared.Verdict.{Verdict}
-use Rattle.target.specs.declared.Verdict.TheVariants.{Accepted}
+use Rattle.target.specs.declared.Second.{Second}
 
 -- 1: command byte not listed; or 78h, 06h, EEh/EFh, 35h, or 85h with no sequence open, whose optional bit is 0
 unfoldable pub unknown : Words → Sequence → Event → Bool
@@ -69,22 +64,22 @@ abbrev pub row_fits : Geometry → First → Row → Bool
 row_fits g f r = exists g (looks_of f) r
 
 -- a column is below P, or below 768 within the parameter page, a row's fields exist, a feature or identification address is one that the command knows
-abbrev pub beyond : Geometry → Given → Bool
-beyond g given.Nothing = false
-beyond g (given.Column k) = leb (column_end g k.page) k.column.0
-beyond g (given.Row k) = not (row_fits g k.first k.row)
-beyond g (given.Single k) = not (knows_address k.first k.value)
+abbrev pub beyond : Geometry → Option Given → Bool
+beyond g None = false
+beyond g (Some (given.Column k)) = leb (column_end g k.page) k.column.0
+beyond g (Some (given.Row k)) = not (row_fits g k.first k.row)
+beyond g (Some (given.Single k)) = not (knows_address k.first k.value)
 
 -- 4: row, column, feature or identification address not in range
 unfoldable pub out_of_range : Geometry → Sequence → Event → Bool
 out_of_range g s e = eqb e.kind 1 && beyond g (completed s e.value)
 
 -- the row's LUN works, looked at with the row's third cycle; for 05h the selected LUN, with the column's second
-abbrev pub names_working : Geometry → List Lun → ℕ → Given → Bool
-names_working g luns selected given.Nothing = false
-names_working g luns selected (given.Column k) = k.asks && works luns selected
-names_working g luns selected (given.Row k) = needs_ready k.first && works luns (lun_of g k.row)
-names_working g luns selected (given.Single k) = false
+abbrev pub names_working : Geometry → List Lun → ℕ → Option Given → Bool
+names_working g luns selected None = false
+names_working g luns selected (Some (given.Column k)) = k.asks && works luns selected
+names_working g luns selected (Some (given.Row k)) = needs_ready k.first && works luns (lun_of g k.row)
+names_working g luns selected (Some (given.Single k)) = false
 
 -- the LUN of the page register that is put out works
 abbrev pub output_works : List Lun → Output → Bool
@@ -102,11 +97,11 @@ lun_works g luns selected d e =
     eqb e.kind 1 && names_working g luns selected (completed d.sequence e.value) || eqb e.kind 3 && output_works luns (put_out d)
 
 -- a row that wants a copyback open on its LUN, where none is
-abbrev pub lacks_copyback : Geometry → List Lun → Given → Bool
-lacks_copyback g luns given.Nothing = false
-lacks_copyback g luns (given.Column k) = false
-lacks_copyback g luns (given.Row k) = needs_copyback k.first && not (copyback_at luns (lun_of g k.row))
-lacks_copyback g luns (given.Single k) = false
+abbrev pub lacks_copyback : Geometry → List Lun → Option Given → Bool
+lacks_copyback g luns None = false
+lacks_copyback g luns (Some (given.Column k)) = false
+lacks_copyback g luns (Some (given.Row k)) = needs_copyback k.first && not (copyback_at luns (lun_of g k.row))
+lacks_copyback g luns (Some (given.Single k)) = false
 
 -- 14: 85h's last row cycle, and no copyback open on the LUN that it names
 unfoldable pub no_copyback : Geometry → List Lun → Sequence → Event → Bool
@@ -118,27 +113,27 @@ work_for luns selected waits.Nobody = false
 work_for luns selected waits.Others = others_work luns selected
 work_for luns selected waits.All = any_works luns
 
-abbrev pub others_work_for : List Lun → ℕ → FirstFound → Bool
-others_work_for luns selected first.Nothing = false
-others_work_for luns selected (first.Found f) = work_for luns selected (waits_for f)
+abbrev pub others_work_for : List Lun → ℕ → Option First → Bool
+others_work_for luns selected None = false
+others_work_for luns selected (Some f) = work_for luns selected (waits_for f)
 
 -- 6: 90h, ECh, EEh, EFh while any LUN works; 70h while a LUN other than the selected one works
 unfoldable pub others_busy : List Lun → ℕ → Event → Bool
 others_busy luns selected e = eqb e.kind 0 && others_work_for luns selected (first_of e.value)
 
-abbrev pub is_guarded : SecondFound → Bool
-is_guarded second.Nothing = false
-is_guarded (second.Found s) = (second_row s).guarded
+abbrev pub is_guarded : Option Second → Bool
+is_guarded None = false
+is_guarded (Some s) = (second_row s).guarded
 
 -- 7: 10h or D0h with the protect line low
 unfoldable pub line_low : Bool → Event → Bool
 line_low high e = eqb e.kind 0 && is_guarded (second_of e.value) && not high
 
 -- a program has come to the end of the register
-abbrev pub data_ended : Geometry → Taker → Bool
-data_ended g taker.Nothing = false
-data_ended g (taker.Program k) = leb (page_size g) k.at.0
-data_ended g (taker.Feature k) = false
+abbrev pub data_ended : Geometry → Option Taker → Bool
+data_ended g None = false
+data_ended g (Some (taker.Program k)) = leb (page_size g) k.at.0
+data_ended g (Some (taker.Feature k)) = false
 
 -- all of the output has been given: the register to its end, the page three times, two IDs, four bytes; a status never ends
 abbrev pub output_ended : Geometry → Output → Bool
@@ -155,10 +150,10 @@ unfoldable pub past_end : Geometry → Decoder → Event → Bool
 past_end g d e = eqb e.kind 2 && data_ended g (taking d.sequence) || eqb e.kind 3 && output_ended g (put_out d)
 
 -- P1 is 0 or 40h, the rest 0; 40h needs feature bit 8
-abbrev pub unoffered : Words → Taker → ℕ → Bool
-unoffered w taker.Nothing v = false
-unoffered w (taker.Program k) v = false
-unoffered w (taker.Feature k) v = not (eqb v 0 || eqb k.got 0 && eqb v 0x40 && has_feature w 8)
+abbrev pub unoffered : Words → Option Taker → ℕ → Bool
+unoffered w None v = false
+unoffered w (Some (taker.Program k)) v = false
+unoffered w (Some (taker.Feature k)) v = not (eqb v 0 || eqb k.got 0 && eqb v 0x40 && has_feature w 8)
 
 -- 9: feature byte not offered, each looked at as it comes
 unfoldable pub not_offered : Words → Sequence → Event → Bool
@@ -200,9 +195,9 @@ rules t e =
     ∷ []
 
 -- the first rule of a list that holds
-abbrev pub first_holding : List Rule → Verdict
-first_holding [] = Accepted
+abbrev pub first_holding : List Rule → Result Unit Refusal
+first_holding [] = Ok tt
 first_holding (r ∷ rs) = or_else r.holds r.gives (first_holding rs)
 
-unfoldable pub verdict : Target → Event → Verdict
+unfoldable pub verdict : Target → Event → Result Unit Refusal
 verdict t e = first_holding (rules t e)

@@ -2,4 +2,3 @@ pub mod Anded
 pub mod Splice
 pub mod Sweep
 pub mod Parts
-pub mod Bounded

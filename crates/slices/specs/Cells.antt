@@ -1,6 +1,7 @@
 -- Lists of lent bytes: a part, a splice, an AND, a bound on every byte, whether some byte is set.
-use Rattle.std.specs.Prelude.{ℕ, Bool, true, false, ◌&&◌, ◌||◌, List, [], ◌∷◌, ◌++◌, take, drop, leb, ltb}
+use Rattle.std.specs.Prelude.{ℕ, Bool, List, [], ◌∷◌, ◌++◌, take, drop, leb, ltb}
 use Rattle.std.specs.Int.Bits.{bit_and}
+use Rattle.std.specs.List.{list_all, list_any}
 
 -- the n bytes from `at` on
 unfoldable pub part : List ℕ → ℕ → ℕ → List ℕ
@@ -18,10 +19,8 @@ and_bytes (x ∷ xs) (y ∷ ys) = bit_and x y ∷ and_bytes xs ys
 
 -- no byte is above `most`
 unfoldable pub all_at_most : ℕ → List ℕ → Bool
-all_at_most most [] = true
-all_at_most most (x ∷ xs) = leb x most && all_at_most most xs
+all_at_most most xs = list_all (λ x. leb x most) xs
 
 -- some byte is above 0
 unfoldable pub some_set : List ℕ → Bool
-some_set [] = false
-some_set (x ∷ xs) = ltb 0 x || some_set xs
+some_set xs = list_any (λ x. ltb 0 x) xs

@@ -1,4 +1,4 @@
-// Loops over lent bytes: a whole slice, and the same on a part of a buffer that starts in its middle, lent on as `&mut`.
+// Lent bytes: a whole slice, and the same on a part of a buffer that starts in its middle, lent on as `&mut`.
 // What the buffer then holds is a `splice`; `proofs/Splice.antt` and `proofs/Parts.antt` have the laws that callers go by.
 #![tactic(auto)]
 
@@ -9,11 +9,7 @@ ghost use Rattle.slices.specs.Cells.{and_bytes, splice, part, all_at_most, some_
 pub fn fill(dst: &mut [u8], v: u8)
     ensures { dst.new ≡ replicate (length dst.old) v }
 {
-    let mut i = 0;
-    while i < dst.len() {
-        dst[i] = v;
-        i += 1;
-    }
+    dst.fill(v);
 }
 
 // `dst` becomes `src`.
@@ -21,11 +17,7 @@ pub fn copy(dst: &mut [u8], src: &[u8])
     requires { length dst.old ≡ length src.now }
     ensures { dst.new ≡ src.now }
 {
-    let mut i = 0;
-    while i < dst.len() {
-        dst[i] = src[i];
-        i += 1;
-    }
+    dst.copy_from_slice(src);
 }
 
 // Each byte of `dst` becomes itself AND the byte of `src`.
@@ -33,14 +25,14 @@ pub fn and_into(dst: &mut [u8], src: &[u8])
     requires { length dst.old ≡ length src.now }
     ensures { dst.new ≡ and_bytes dst.old src.now }
 {
-    let mut i = 0;
-    while i < dst.len() {
+    // an index: after `zip` over what is written a proof knows the length alone
+    for i in 0..dst.len() {
         dst[i] = dst[i] & src[i];
-        i += 1;
     }
 }
 
 // The `n` bytes from `at` on become `v`.
+#[tactic(auto, unfolding(crate::specs::Cells::splice))]
 pub fn fill_part(buffer: &mut [u8], at: usize, n: usize, v: u8)
     requires { at + n ≤ length buffer.old }
     ensures { buffer.new ≡ splice buffer.old at n (replicate n v) }
@@ -49,6 +41,7 @@ pub fn fill_part(buffer: &mut [u8], at: usize, n: usize, v: u8)
 }
 
 // The `n` bytes from `at` on become those of `src` from `from` on.
+#[tactic(auto, unfolding(crate::specs::Cells::splice, crate::specs::Cells::part))]
 pub fn copy_part(buffer: &mut [u8], at: usize, n: usize, src: &[u8], from: usize)
     requires { (at + n ≤ length buffer.old) × (from + n ≤ length src.now) }
     ensures { buffer.new ≡ splice buffer.old at n (part src.now from n) }
@@ -57,6 +50,7 @@ pub fn copy_part(buffer: &mut [u8], at: usize, n: usize, src: &[u8], from: usize
 }
 
 // The `n` bytes from `at` on become themselves AND those of `src` from `from` on.
+#[tactic(auto, unfolding(crate::specs::Cells::splice, crate::specs::Cells::part))]
 pub fn and_part(buffer: &mut [u8], at: usize, n: usize, src: &[u8], from: usize)
     requires { (at + n ≤ length buffer.old) × (from + n ≤ length src.now) }
     ensures { buffer.new ≡ splice buffer.old at n (and_bytes (part buffer.old at n) (part src.now from n)) }
@@ -73,6 +67,7 @@ pub fn put(dst: &mut [u8], i: usize, v: u8)
 }
 
 // Byte `i` of the `n` bytes from `at` on becomes `v`.
+#[tactic(auto, unfolding(crate::specs::Cells::splice, crate::specs::Cells::part))]
 pub fn put_part(buffer: &mut [u8], at: usize, n: usize, i: usize, v: u8)
     requires { (at + n ≤ length buffer.old) × (i < n) }
     ensures { buffer.new ≡ splice buffer.old at n (set (part buffer.old at n) i v) }
@@ -88,33 +83,27 @@ pub fn byte_at(s: &[u8], i: usize) -> u8
 }
 
 // No byte is above `most`.
+#[tactic(auto, unfolding(crate::specs::Cells::all_at_most))]
 pub fn at_most(s: &[u8], most: u8) -> bool
     ensures { result ≡ all_at_most most s.now }
 {
-    let mut i = 0;
-    while i < s.len() {
-        if s[i] > most {
-            return false;
-        }
-        i += 1;
-    }
-    true
+    s.iter().all(|&x| x <= most)
 }
 
 // Some byte is above 0. The whole slice is looked at, without a way out, so that many bytes go at once.
+#[tactic(auto, unfolding(crate::specs::Cells::some_set))]
 pub fn some_set(s: &[u8]) -> bool
     ensures { result ≡ some_set s.now }
 {
     let mut any = false;
-    let mut i = 0;
-    while i < s.len() {
-        any = any | (0 < s[i]);
-        i += 1;
+    for &x in s {
+        any = any | (0 < x);
     }
     any
 }
 
 // The `count` bytes from `at` on, as many as there are.
+#[tactic(auto, unfolding(crate::specs::Cells::part))]
 pub fn part_of(s: &[u8], at: usize, count: usize) -> &[u8]
     ensures { result.now ≡ part s.now at count }
 {

@@ -26,15 +26,8 @@ use Rattle.target.specs.declared.commands.Looks.{Looks}
 use Rattle.target.specs.declared.commands.Looks.TheVariants as looks
 use Rattle.target.specs.declared.commands.Act.{Act}
 use Rattle.target.specs.declared.commands.Act.TheVariants as act
-use Rattle.target.specs.declared.commands.FirstFound.{FirstFound}
-use Rattle.target.specs.declared.commands.FirstFound.TheVariants as first
-use Rattle.target.specs.declared.commands.SecondFound.{SecondFound}
-use Rattle.target.specs.declared.commands.SecondFound.TheVariants as second
 use Rattle.target.specs.declared.views.Given.{Given}
 use Rattle.target.specs.declared.views.Given.TheVariants as given
-use Rattle.target.specs.declared.views.Ender.{Ender}
-use Rattle.target.specs.declared.views.Ender.TheVariants as ender
-use Rattle.target.specs.declared.Verdict.TheVariants.{Accepted}
 use Rattle.target.specs.declared.Sequence.{Sequence}
 use Rattle.target.specs.declared.Sequence.TheVariants.{Idle, Columns, Rows, Single, Due, Filling, Moving, Setting}
 use Rattle.target.specs.declared.Work.{Work}
@@ -51,6 +44,9 @@ use Rattle.step.specs.Buffers.{proceeds, ended_findings, findings}
 use Rattle.step.specs.Step.{Ready, Reaches, EnderReaches}
 use Rattle.blocks.proofs.Places.{row-lun, row_block}
 use Rattle.step.proofs.Sound.{sound, filling-row}
+use Rattle.std.specs.Prelude.{None, Ok, Option, Some}
+use Rattle.target.specs.declared.views.Ended.{Ended}
+use Rattle.target.specs.declared.Second.{Second}
 
 -- the fields of a row that a command looks at are those that its second command works on
 abbrev pub suits : Act → Bool → Looks → Bool
@@ -69,14 +65,14 @@ suits act.Erase rowed looks.Block = rowed
 suits act.Erase rowed looks.Page = rowed
 suits act.Move rowed l = true
 
-abbrev pub end_suits : SecondFound → Bool → Looks → Bool
-end_suits second.Nothing rowed l = true
-end_suits (second.Found s) rowed l = suits (second_row s).act rowed l
+abbrev pub end_suits : Option Second → Bool → Looks → Bool
+end_suits None rowed l = true
+end_suits (Some s) rowed l = suits (second_row s).act rowed l
 
 -- one test over the list of first commands
 pub ends-suit : (f : First) (v : ℕ) → ends_with f v ≡ true → end_suits (second_of v) (takes_row f) (looks_of f) ≡ true
 unfolding row_of second_of second_row
-ends-suit f v h = each-end (λ (x : First) (k : SecondFound). end_suits k (takes_row x) (looks_of x)) refl f v h
+ends-suit f v h = each-end (λ (x : First) (k : Option Second). end_suits k (takes_row x) (looks_of x)) refl f v h
 
 -- a command that clears registers has a row whose page exists
 abbrev is_page : Looks → Bool
@@ -120,21 +116,21 @@ module _ (g : Geometry) where
   held-row : (f : First) (r : Row) → row_held g f r ≡ true → takes_row f ≡ true → row_fits g f r ≡ true
   held-row f r h k = subst (λ (b : Bool). pick b (row_fits g f r) (eqb r.0 0) ≡ true) k h
 
-  none-reached : EnderReaches g ender.Nothing
+  none-reached : EnderReaches g None
   unfolding EnderReaches
   none-reached = tt
 
-  found-reached : (k : SecondFound) (c : Column) (r : Row) (f : First) → end_suits k (takes_row f) (looks_of f) ≡ true → row_held g f r ≡ true → EnderReaches g (ended_with k f c r)
+  found-reached : (k : Option Second) (c : Column) (r : Row) (f : First) → end_suits k (takes_row f) (looks_of f) ≡ true → row_held g f r ≡ true → EnderReaches g (ended_with k f c r)
   unfolding EnderReaches
-  found-reached second.Nothing c r f h held = tt
-  found-reached (second.Found s) c r f h held = reached (second_row s).act (takes_row f) (looks_of f) r h (held-row f r held)
+  found-reached None c r f h held = tt
+  found-reached (Some s) c r f h held = reached (second_row s).act (takes_row f) (looks_of f) r h (held-row f r held)
 
-  filling-reached : (k : SecondFound) (f : First) (c : Column) (r : Row) → row_exists g r ≡ true → EnderReaches g (ended_with k f c r)
+  filling-reached : (k : Option Second) (f : First) (c : Column) (r : Row) → row_exists g r ≡ true → EnderReaches g (ended_with k f c r)
   unfolding EnderReaches
-  filling-reached second.Nothing f c r h = tt
-  filling-reached (second.Found s) f c r h = row-reaches (second_row s).act r h
+  filling-reached None f c r h = tt
+  filling-reached (Some s) f c r h = row-reaches (second_row s).act r h
 
-  reach-pick : (b : Bool) (x y : Ender) → (b ≡ true → EnderReaches g x) → EnderReaches g y → EnderReaches g (pick b x y)
+  reach-pick : (b : Bool) (x y : Option Ended) → (b ≡ true → EnderReaches g x) → EnderReaches g y → EnderReaches g (pick b x y)
   reach-pick true x y h k = h refl
   reach-pick false x y h k = k
 
@@ -147,11 +143,11 @@ module _ (g : Geometry) where
   ender-reaches (Due k) v h =
       let f = k.first in
       let p = both3 (waits_second f) (column_held g f k.column) (row_held g f k.row) h in
-      reach-pick (ends_with f v) (ended_by v f k.column k.row) ender.Nothing
+      reach-pick (ends_with f v) (ended_by v f k.column k.row) None
       (λ is. found-reached (second_of v) k.column k.row f (ends-suit f v is) p.2)
       none-reached
   ender-reaches (Filling k) v h =
-      reach-pick (eqb v 0x10 || eqb v 0x85) (ended_by v k.first k.at k.row) ender.Nothing
+      reach-pick (eqb v 0x10 || eqb v 0x85) (ended_by v k.first k.at k.row) None
       (λ _. filling-reached (second_of v) k.first k.at k.row (filling-row g k h))
       none-reached
   ender-reaches (Moving k) v h = none-reached
@@ -190,15 +186,15 @@ module _ (g : Geometry) (counts : List ℕ) where
   act-ready w act.Erase r flags found m h k = ready-pick found.proceeds (work.Erase r) work.Nothing (λ _. h) (λ _. tt)
   act-ready w act.Move r flags found m h k = tt
 
-  ended-ready : (w : Words) (k : Ender) (flags : List ℕ) (found : Findings) → Limits g → EnderReaches g k → found ≡ ended_findings g w k counts flags → Ready g (ended_work k found) counts
+  ended-ready : (w : Words) (k : Option Ended) (flags : List ℕ) (found : Findings) → Limits g → EnderReaches g k → found ≡ ended_findings g w k counts flags → Ready g (ended_work k found) counts
   unfolding EnderReaches
-  ended-ready w ender.Nothing flags found m h e = nothing
-  ended-ready w (ender.By k) flags found m h e =
+  ended-ready w None flags found m h e = nothing
+  ended-ready w (Some k) flags found m h e =
       act-ready w (second_row k.second).act k.row flags found m h (ap (λ (x : Findings). x.proceeds) e)
 
-  first-ready : (clear : Bool) (k : FirstFound) → Ready g (first_work clear k) counts
-  first-ready clear first.Nothing = nothing
-  first-ready clear (first.Found f) = ready-pick (clears_register f && not clear) work.ClearAll work.Nothing (λ _. clear-all) (λ _. nothing)
+  first-ready : (clear : Bool) (k : Option First) → Ready g (first_work clear k) counts
+  first-ready clear None = nothing
+  first-ready clear (Some f) = ready-pick (clears_register f && not clear) work.ClearAll work.Nothing (λ _. clear-all) (λ _. nothing)
 
   command-ready : (w : Words) (clear : Bool) (s : Sequence) (v : ℕ) (flags : List ℕ) (found : Findings) → Limits g → sequence_sound g s ≡ true → found ≡ ended_findings g w (ending s v) counts flags → Ready g (command_work clear s v found) counts
   command-ready w clear s v flags found m h k =
@@ -221,18 +217,18 @@ module _ (g : Geometry) (counts : List ℕ) where
   not-false true h = refl
   not-false false h = absurd (false≢true (sym h))
 
-  address-ready : (clear : Bool) (k : Given) → beyond g k ≡ false → Ready g (address_work g clear k) counts
+  address-ready : (clear : Bool) (k : Option Given) → beyond g k ≡ false → Ready g (address_work g clear k) counts
   unfolding Ready
-  address-ready clear given.Nothing h = tt
-  address-ready clear (given.Column k) h = tt
-  address-ready clear (given.Row k) h =
+  address-ready clear None h = tt
+  address-ready clear (Some (given.Column k)) h = tt
+  address-ready clear (Some (given.Row k)) h =
       ready-pick (clears_register k.first && clear) (work.ClearOne (lun_of g k.row)) work.Nothing
       (λ p. row-lun g k.row
       (looked-row (looks_of k.first) k.row
       (implied (clears_register k.first) (is_page (looks_of k.first)) (clears-page k.first) (both (clears_register k.first) clear p).0)
       (not-false (row_fits g k.first k.row) h)))
       (λ _. tt)
-  address-ready clear (given.Single k) h = tt
+  address-ready clear (Some (given.Single k)) h = tt
 
   -- a data-in byte that is not past the end has its place
   data-ready : (s : Sequence) (v : ℕ) → sequence_sound g s ≡ true → data_ended g (taking s) ≡ false → Ready g (data_work g (taking s) v) counts
@@ -255,7 +251,7 @@ picked : {A : Type 0} (b : Bool) (x y : A) → b ≡ true → pick b x y ≡ x
 picked true x y e = refl
 picked false x y e = absurd (false≢true e)
 
-module _ (t : Target) (e : Event) (counts flags : List ℕ) (ok : record_sound t ≡ true) (accepted : verdict t e ≡ Accepted) where
+module _ (t : Target) (e : Event) (counts flags : List ℕ) (ok : record_sound t ≡ true) (accepted : verdict t e ≡ (Ok tt)) where
   in-range : eqb e.kind 1 ≡ true → beyond t.geometry (completed t.decoder.sequence e.value) ≡ false
   unfolding out_of_range
   in-range k = then-not (eqb e.kind 1) _ (all-passed t e accepted).rule-4 k

@@ -1,5 +1,5 @@
 -- What work does to the lent buffers (document 01, "The steps"). Pages lie in the array in order of LUN, block, page.
-use Rattle.std.specs.Prelude.{Bool, true, false, ◌&&◌, ◌||◌, not, List, ℕ, ◌+◌, ◌*◌, ◌%◌, length, get_or, set, replicate, eqb}
+use Rattle.std.specs.Prelude.{Bool, true, false, ◌&&◌, ◌||◌, not, List, ℕ, ◌+◌, ◌*◌, ◌%◌, length, get_or, set, replicate, eqb, None, Option, Some}
 use Rattle.slices.specs.Cells.{splice, part, and_bytes}
 use Rattle.target.specs.Pick.{pick}
 use Rattle.target.specs.Address.{lun_of}
@@ -15,14 +15,13 @@ use Rattle.target.specs.declared.Target.{Target}
 use Rattle.target.specs.declared.Findings.{Findings}
 use Rattle.target.specs.declared.commands.Act.{Act}
 use Rattle.target.specs.declared.commands.Act.TheVariants as act
-use Rattle.target.specs.declared.views.Ender.{Ender}
-use Rattle.target.specs.declared.views.Ender.TheVariants as ender
 use Rattle.target.specs.declared.Sequence.{Sequence}
 use Rattle.target.specs.declared.Output.{Output}
 use Rattle.target.specs.declared.Output.TheVariants as output
 use Rattle.target.specs.declared.Work.{Work}
 use Rattle.target.specs.declared.Work.TheVariants as work
 use Rattle.blocks.specs.Blocks.{block_index, page_index, block_bad, page_full, out_of_order, blank_block}
+use Rattle.target.specs.declared.views.Ended.{Ended}
 
 -- the page registers after work: FFh, a page of the array, or one byte put at its column
 unfoldable pub registers_after : Geometry → Work → List ℕ → List ℕ → List ℕ
@@ -79,9 +78,9 @@ was_blank g act.Move r counts flags = false
 abbrev pub nothing_found : Findings
 nothing_found = record { proceeds = true; blank = false }
 
-abbrev pub ended_findings : Geometry → Words → Ender → List ℕ → List ℕ → Findings
-ended_findings g w ender.Nothing counts flags = nothing_found
-ended_findings g w (ender.By k) counts flags = record {
+abbrev pub ended_findings : Geometry → Words → Option Ended → List ℕ → List ℕ → Findings
+ended_findings g w None counts flags = nothing_found
+ended_findings g w (Some k) counts flags = record {
   proceeds = proceeds g w (second_row k.second).act k.row counts flags;
   blank = was_blank g (second_row k.second).act k.row counts flags;
 }

@@ -1,5 +1,5 @@
 -- One event, whole: the reply, the record after it and every lent byte.
-use Rattle.std.specs.Prelude.{◌≡◌, true, List, ℕ, ◌*◌, ◌<◌, length, get_or, eqb}
+use Rattle.std.specs.Prelude.{◌≡◌, true, List, ℕ, ◌*◌, ◌<◌, length, get_or, eqb, Err, None, Ok, Option, Result, Some}
 use Rattle.target.specs.Pick.{pick}
 use Rattle.target.specs.Sizes.{page_size}
 use Rattle.target.specs.Address.{block_exists, row_exists}
@@ -8,8 +8,6 @@ use Rattle.target.specs.Place.{put_out}
 use Rattle.target.specs.declared.Row.{Row}
 use Rattle.target.specs.declared.commands.Act.{Act}
 use Rattle.target.specs.declared.commands.Act.TheVariants as act
-use Rattle.target.specs.declared.views.Ender.{Ender}
-use Rattle.target.specs.declared.views.Ender.TheVariants as ender
 use Rattle.target.specs.declared.Event.{Event}
 use Rattle.target.specs.declared.Geometry.{Geometry}
 use Rattle.target.specs.declared.Target.{Target}
@@ -17,8 +15,6 @@ use Rattle.target.specs.declared.Findings.{Findings}
 use Rattle.target.specs.declared.Work.{Work}
 use Rattle.target.specs.declared.Work.TheVariants as work
 use Rattle.target.specs.declared.Refusal.TheVariants.{NotUsable}
-use Rattle.target.specs.declared.Verdict.{Verdict}
-use Rattle.target.specs.declared.Verdict.TheVariants as verdicts
 use Rattle.target.specs.declared.Reply.{Reply}
 use Rattle.target.specs.declared.Reply.TheVariants.{Accepted, Byte, Refused}
 use Rattle.rules.specs.Rules.{verdict}
@@ -26,6 +22,8 @@ use Rattle.effects.specs.Effects.{target_after, target_refused, work_of}
 use Rattle.step.specs.Usable.{usable}
 use Rattle.blocks.specs.Blocks.{page_index}
 use Rattle.step.specs.Buffers.{findings, registers_after, array_after, counts_after, output_byte}
+use Rattle.target.specs.declared.views.Ended.{Ended}
+use Rattle.target.specs.declared.Refusal.{Refusal}
 
 -- the lent buffers that an event may change
 pub record Buffers : Type 0 where
@@ -63,9 +61,9 @@ accepted t e params b flags =
     accepted_by t e params b (findings t.geometry t.words t.decoder.sequence e b.counts flags)
 
 -- a record and buffers that rule 13 lets pass, by the verdict
-unfoldable pub by_verdict : Verdict → Target → Event → List ℕ → Buffers → List ℕ → Outcome
-by_verdict verdicts.Accepted t e params b flags = accepted t e params b flags
-by_verdict (verdicts.Refused r) t e params b flags = record { reply = Refused r; target = target_refused t e; buffers = b }
+unfoldable pub by_verdict : Result Unit Refusal → Target → Event → List ℕ → Buffers → List ℕ → Outcome
+by_verdict (Ok tt) t e params b flags = accepted t e params b flags
+by_verdict (Err r) t e params b flags = record { reply = Refused r; target = target_refused t e; buffers = b }
 
 -- the step where rule 13 does not hold
 unfoldable pub steady : Target → Event → List ℕ → Buffers → List ℕ → Outcome
@@ -106,6 +104,6 @@ Reaches g act.Program r = row_exists g r ≡ true
 Reaches g act.Erase r = block_exists g r ≡ true
 Reaches g act.Move r = Unit
 
-unfoldable pub EnderReaches : Geometry → Ender → Type 0
-EnderReaches g ender.Nothing = Unit
-EnderReaches g (ender.By k) = Reaches g (second_row k.second).act k.row
+unfoldable pub EnderReaches : Geometry → Option Ended → Type 0
+EnderReaches g None = Unit
+EnderReaches g (Some k) = Reaches g (second_row k.second).act k.row

@@ -4,9 +4,8 @@
 pub mod buffers;
 pub mod usable;
 
-ghost use Rattle.std.specs.Prelude.{◌≡◌, true, length};
+ghost use Rattle.std.specs.Prelude.{◌≡◌, true, length, Ok};
 ghost use Rattle.rules.specs.Rules.{verdict};
-ghost use Rattle.target.specs.declared.Verdict.TheVariants as verdicts;
 ghost use Rattle.step.specs.Usable.{record_sound};
 ghost use Rattle.step.specs.Step.{Outcome, reply_of, accepted, steady, step_of, Sizes};
 
@@ -14,8 +13,9 @@ use buffers::{findings, output_byte, perform};
 use effects::works::work_of;
 use effects::{target_after, target_refused};
 use rules::decide;
+use target::events::Kind;
 use target::place::put_out;
-use target::{Event, Refusal, Reply, Target, Verdict};
+use target::{Event, Refusal, Reply, Target};
 use usable::usable;
 
 #[derive(Clone, Copy)]
@@ -24,18 +24,19 @@ pub struct Stepped {
     pub target: Target,
 }
 
+#[tactic(auto, unfolding(crate::specs::Step::reply_of))]
 fn reply_of(t: Target, e: Event, params: &[u8], registers: &[u8]) -> Reply
     requires { record_sound t ≡ true }
     ensures { result ≡ reply_of t e params.now registers.now }
 {
-    if e.kind == 3 {
-        let d = t.decoder;
-        Reply::Byte(output_byte(t, params, registers, put_out(d)))
+    if e.is(Kind::DataOut) {
+        Reply::Byte(output_byte(t, params, registers, put_out(t.decoder)))
     } else {
         Reply::Accepted
     }
 }
 
+#[tactic(auto, unfolding(crate::specs::Step::accepted, crate::specs::Step::accepted_by, crate::specs::Step::worked))]
 fn accept(
     t: Target,
     e: Event,
@@ -46,25 +47,26 @@ fn accept(
     flags: &[u8],
 ) -> Stepped
     requires t_value { record_sound t ≡ true }
-    requires e_value { verdict t e ≡ verdicts.Accepted }
+    requires e_value { verdict t e ≡ Ok tt }
     requires sizes { Sizes t.geometry array.old registers.old counts.old }
     ensures { ◌≡◌ {A = Outcome}
         (record { reply = result.reply; target = result.target; buffers = record { array = array.new; registers = registers.new; counts = counts.new } })
         (accepted t e params.now (record { array = array.old; registers = registers.old; counts = counts.old }) flags.now) }
 {
     let g = t.geometry;
-    let d = t.decoder;
-    let s = d.sequence;
-    let words = t.words;
-    let found = findings(g, words, s, e, counts, flags);
+    let s = t.decoder.sequence;
+    let found = findings(g, t.words, s, e, counts, flags);
     let reply = reply_of(t, e, params, registers);
-    let w = work_of(g, t.clear, s, e, found);
-    perform(g, w, array, registers, counts);
-    let n = target_after(t, e, found);
-    Stepped { reply, target: n }
+    let work = work_of(g, t.clear, s, e, found);
+    perform(g, work, array, registers, counts);
+    Stepped {
+        reply,
+        target: target_after(t, e, found),
+    }
 }
 
 // One event where rule 13 is known not to hold: what a run goes by, which looks at rule 13 once.
+#[tactic(auto, unfolding(crate::specs::Step::steady, crate::specs::Step::by_verdict))]
 pub fn steady(
     t: Target,
     e: Event,
@@ -80,20 +82,17 @@ pub fn steady(
         (record { reply = result.reply; target = result.target; buffers = record { array = array.new; registers = registers.new; counts = counts.new } })
         (steady t e params.now (record { array = array.old; registers = registers.old; counts = counts.old }) flags.now) }
 {
-    let v = decide(t, e);
-    match v {
-        Verdict::Refused(r) => {
-            let n = target_refused(t, e);
-            Stepped {
-                reply: Reply::Refused(r),
-                target: n,
-            }
-        }
-        Verdict::Accepted => accept(t, e, params, array, registers, counts, flags),
+    match decide(t, e) {
+        Err(why) => Stepped {
+            reply: Reply::Refused(why),
+            target: target_refused(t, e),
+        },
+        Ok(()) => accept(t, e, params, array, registers, counts, flags),
     }
 }
 
 // One event.
+#[tactic(auto, unfolding(crate::specs::Step::step_of))]
 pub fn step(
     t: Target,
     e: Event,

@@ -9,7 +9,6 @@ use target::bits::has_feature;
 use target::commands::{
     cycles_of, in_page, takes_column, takes_program_data, takes_row, waits_second,
 };
-use target::picks::pick_bool;
 use target::place::shows_status;
 use target::records::{is_unused, lun_at};
 use target::sizes::{column_end, in_limits, page_size, sized};
@@ -20,40 +19,39 @@ use target::{
 pub fn column_held(g: Geometry, f: First, c: Column) -> bool
     ensures { result ≡ column_held g f c }
 {
-    let end = column_end(g, in_page(f));
-    pick_bool(takes_column(f), c.0 < end, c.0 == 0)
+    if takes_column(f) {
+        c.0 < column_end(g, in_page(f))
+    } else {
+        c.0 == 0
+    }
 }
 
 pub fn row_held(g: Geometry, f: First, r: Row) -> bool
     ensures { result ≡ row_held g f r }
 {
-    pick_bool(takes_row(f), row_fits(g, f, r), r.0 == 0)
+    if takes_row(f) {
+        row_fits(g, f, r)
+    } else {
+        r.0 == 0
+    }
 }
 
 pub fn rows_sound(g: Geometry, k: RowCycles) -> bool
     ensures { result ≡ sequence_sound g (sequence.Rows k) }
 {
-    let f = k.first;
-    let c = k.column;
-    takes_row(f) & (k.got < 3) & column_held(g, f, c)
+    takes_row(k.first) && k.got < 3 && column_held(g, k.first, k.column)
 }
 
 pub fn wait_sound(g: Geometry, k: Wait) -> bool
     ensures { result ≡ sequence_sound g (sequence.Due k) }
 {
-    let f = k.first;
-    let c = k.column;
-    let r = k.row;
-    waits_second(f) & column_held(g, f, c) & row_held(g, f, r)
+    waits_second(k.first) && column_held(g, k.first, k.column) && row_held(g, k.first, k.row)
 }
 
 pub fn fill_sound(g: Geometry, k: Fill) -> bool
     ensures { result ≡ sequence_sound g (sequence.Filling k) }
 {
-    let f = k.first;
-    let at = k.at;
-    let r = k.row;
-    takes_program_data(f) & (at.0 <= page_size(g)) & row_exists(g, r)
+    takes_program_data(k.first) && k.at.0 <= page_size(g) && row_exists(g, k.row)
 }
 
 pub fn sequence_sound(g: Geometry, s: Sequence) -> bool
@@ -61,20 +59,13 @@ pub fn sequence_sound(g: Geometry, s: Sequence) -> bool
 {
     match s {
         Sequence::Idle => true,
-        Sequence::Columns(k) => {
-            let f = k.first;
-            takes_column(f) & (k.got < 2)
-        }
+        Sequence::Columns(k) => takes_column(k.first) && k.got < 2,
         Sequence::Rows(k) => rows_sound(g, k),
         Sequence::Single(f) => cycles_of(f) == 1,
         Sequence::Due(k) => wait_sound(g, k),
         Sequence::Filling(k) => fill_sound(g, k),
-        Sequence::Moving(k) => {
-            let f = k.first;
-            let r = k.row;
-            takes_program_data(f) & (k.got < 2) & row_exists(g, r)
-        }
-        Sequence::Setting(k) => (k.got < 4) & ((k.value == 0) | (k.value == 0x40)),
+        Sequence::Moving(k) => takes_program_data(k.first) && k.got < 2 && row_exists(g, k.row),
+        Sequence::Setting(k) => k.got < 4 && (k.value == 0 || k.value == 0x40),
     }
 }
 
@@ -83,12 +74,11 @@ pub fn output_sound(g: Geometry, o: Output) -> bool
 {
     match o {
         Output::Nothing => true,
-        Output::Register { lun, column } => (lun < g.luns) & (column.0 <= page_size(g)),
+        Output::Register { lun, column } => lun < g.luns && column.0 <= page_size(g),
         Output::Parameters { at } => at <= 768,
         Output::Status { lun } => lun < g.luns,
         Output::Ids { at } => at <= 2,
-        Output::Signature { at } => at <= 4,
-        Output::Feature { at } => at <= 4,
+        Output::Signature { at } | Output::Feature { at } => at <= 4,
     }
 }
 
@@ -96,7 +86,7 @@ pub fn output_sound(g: Geometry, o: Output) -> bool
 pub fn kept_sound(g: Geometry, o: Output) -> bool
     ensures { result ≡ kept_sound g o }
 {
-    output_sound(g, o) & !shows_status(o)
+    output_sound(g, o) && !shows_status(o)
 }
 
 // A LUN that exists has at most its blocks blank; one past the count is as power-on left it.
@@ -104,45 +94,46 @@ pub fn mark_sound(g: Geometry, luns: Luns, l: usize) -> bool
     ensures { result ≡ mark_sound g luns l }
 {
     let x = lun_at(luns, l);
-    pick_bool(l < g.luns, x.blank as usize <= g.blocks, is_unused(x))
+    if l < g.luns {
+        x.blank as usize <= g.blocks
+    } else {
+        is_unused(x)
+    }
 }
 
 pub fn marks_sound(g: Geometry, luns: Luns) -> bool
     ensures { result ≡ marks_sound g luns }
 {
     mark_sound(g, luns, 0)
-        & mark_sound(g, luns, 1)
-        & mark_sound(g, luns, 2)
-        & mark_sound(g, luns, 3)
+        && mark_sound(g, luns, 1)
+        && mark_sound(g, luns, 2)
+        && mark_sound(g, luns, 3)
 }
 
 pub fn words_sound(g: Geometry, w: Words) -> bool
     ensures { result ≡ words_sound g w }
 {
-    !has_feature(w, 0) & ((g.luns <= 1) | has_feature(w, 1))
+    !has_feature(w, 0) && (g.luns <= 1 || has_feature(w, 1))
 }
 
+#[tactic(auto, unfolding(crate::specs::Usable::record_sound))]
 pub fn record_sound(t: Target) -> bool
     ensures { result ≡ record_sound t }
 {
     let g = t.geometry;
-    let luns = t.luns;
-    let words = t.words;
     let d = t.decoder;
-    let s = d.sequence;
-    let o = d.output;
-    let kept = d.kept;
     t.powered
-        & in_limits(g)
-        & words_sound(g, words)
-        & (t.selected < g.luns)
-        & marks_sound(g, luns)
-        & sequence_sound(g, s)
-        & output_sound(g, o)
-        & kept_sound(g, kept)
+        && in_limits(g)
+        && words_sound(g, t.words)
+        && t.selected < g.luns
+        && marks_sound(g, t.luns)
+        && sequence_sound(g, d.sequence)
+        && output_sound(g, d.output)
+        && kept_sound(g, d.kept)
 }
 
 // Rule 13 does not hold. The lengths are multiplied out only within the limits.
+#[tactic(auto, unfolding(crate::specs::Usable::usable))]
 pub fn usable(
     t: Target,
     params: usize,
@@ -153,10 +144,5 @@ pub fn usable(
 ) -> bool
     ensures { result ≡ usable t params array registers counts flags }
 {
-    if record_sound(t) {
-        let g = t.geometry;
-        (params == 256) & sized(g, array, registers, counts, flags)
-    } else {
-        false
-    }
+    record_sound(t) && params == 256 && sized(t.geometry, array, registers, counts, flags)
 }

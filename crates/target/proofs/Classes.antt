@@ -11,12 +11,11 @@ use lib.ListN.{get_or}
 use Rattle.target.specs.Pick.{pick}
 use Rattle.target.specs.Commands.{class_of, row_of, second_row, byte_of, first_commands, first_in, first_of, is_in, first_bytes, second_bytes, alone_bytes, is_first}
 use Rattle.target.specs.declared.First.{First as Command}
-use Rattle.target.specs.declared.commands.FirstFound.{FirstFound}
-use Rattle.target.specs.declared.commands.FirstFound.TheVariants as first
 use Rattle.target.specs.declared.commands.Class.{Class}
 use Rattle.target.specs.declared.commands.Class.TheVariants.{First, Second, Both, Alone, Unknown}
 use Rattle.target.proofs.Table.{at_place}
 use Rattle.target.proofs.ClassList.{classes}
+use Rattle.std.specs.Prelude.{Option, Some, is_some}
 
 -- the number that stands in the table for a class
 abbrev pub number_of_class : Class → ℕ
@@ -78,15 +77,11 @@ unknown-told v h = unlisted (class_of v) (get_or classes v 0) (table-right v h)
 
 -- The byte of a first command is found in the list just where its class says so.
 
-abbrev pub found : FirstFound → Bool
-found first.Nothing = false
-found (first.Found f) = true
-
-found-or : (b : Bool) (f : Command) (k : FirstFound) (c : Bool) → found k ≡ c → found (pick b (first.Found f) k) ≡ (b || c)
+found-or : (b : Bool) (f : Command) (k : Option Command) (c : Bool) → is_some k ≡ c → is_some (pick b (Some f) k) ≡ (b || c)
 found-or true f k c h = refl
 found-or false f k c h = h
 
-found_in : (fs : List Command) (v : ℕ) → found (first_in fs v) ≡ is_in v (map byte_of fs)
+found_in : (fs : List Command) (v : ℕ) → is_some (first_in fs v) ≡ is_in v (map byte_of fs)
 found_in [] v = refl
 found_in (f ∷ fs) v = found-or (eqb v (byte_of f)) f (first_in fs v) (is_in v (map byte_of fs)) (found_in fs v)
 
@@ -97,6 +92,6 @@ first-of-class false true c = refl
 first-of-class false false true = refl
 first-of-class false false false = refl
 
-pub found-class : (v : ℕ) (k : FirstFound) → k ≡ first_of v → found k ≡ is_first (class_of v)
+pub found_class : (v : ℕ) (k : Option Command) → k ≡ first_of v → is_some k ≡ is_first (class_of v)
 unfolding class_of first_of
-found-class v k h = ap found h ∙ found_in first_commands v ∙ first-of-class (is_in v first_bytes) (is_in v second_bytes) (is_in v alone_bytes)
+found_class v k h = ap is_some h ∙ found_in first_commands v ∙ first-of-class (is_in v first_bytes) (is_in v second_bytes) (is_in v alone_bytes)

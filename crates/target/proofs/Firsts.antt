@@ -13,10 +13,9 @@ use Rattle.target.specs.Commands.{first_commands, place_of, row_of, byte_of, in_
 use Rattle.target.specs.Views.{ends_with}
 use Rattle.target.specs.declared.First.{First}
 use Rattle.target.specs.declared.First.TheVariants.{Read, ChangeColumn, ChangeColumnEnhanced, Erase, Status, StatusEnhanced, Program, ReadId, ParameterPage, GetFeatures, SetFeatures, CopybackProgram, ChangeColumnInPage}
-use Rattle.target.specs.declared.commands.FirstFound.{FirstFound}
-use Rattle.target.specs.declared.commands.FirstFound.TheVariants as first
-use Rattle.target.specs.declared.commands.SecondFound.{SecondFound}
 use Rattle.target.proofs.Both.{both, other}
+use Rattle.std.specs.Prelude.{None, Option, Some}
+use Rattle.target.specs.declared.Second.{Second}
 
 pub listed : (f : First) → place_of f < 13
 listed Read = lit< tt
@@ -63,7 +62,7 @@ pub each_first : (p : First → Bool) → every p first_commands ≡ true → (f
 each_first p all f = subst (λ (x : First). p x ≡ true) (standing f) (at_place p first_commands (place_of f) (listed f) all)
 
 -- and one that holds of both its second commands holds of whichever ends it
-pub each-end : (p : First → SecondFound → Bool)
+pub each-end : (p : First → Option Second → Bool)
     → every (λ (x : First). p x (second_of (end_of x)) && p x (second_of (other_end x))) first_commands ≡ true
     → (f : First) (v : ℕ) → ends_with f v ≡ true → p f (second_of v) ≡ true
 each-end p all f v h = by_end (eqb v (end_of f)) refl
@@ -81,21 +80,21 @@ each-end p all f v h = by_end (eqb v (end_of f)) refl
         pair.1
 
 -- a command that is found stands at this place
-abbrev found_at : FirstFound → ℕ → Bool
-found_at first.Nothing n = false
-found_at (first.Found f) n = eqb (place_of f) n
+abbrev found_at : Option First → ℕ → Bool
+found_at None n = false
+found_at (Some f) n = eqb (place_of f) n
 
-same_place : (f : First) (found : FirstFound) → found_at found (place_of f) ≡ true → found ≡ first.Found f
-same_place f first.Nothing h = absurd (false≢true h)
-same_place f (first.Found x) h =
+same_place : (f : First) (found : Option First) → found_at found (place_of f) ≡ true → found ≡ Some f
+same_place f None h = absurd (false≢true h)
+same_place f (Some x) h =
     let at : get_or first_commands (place_of x) Read ≡ get_or first_commands (place_of f) Read = ap (λ (n : ℕ). get_or first_commands n Read) (eqb-true (place_of x) (place_of f) h) in
-    ap first.Found (sym (standing x) ∙ at ∙ standing f)
+    ap Some (sym (standing x) ∙ at ∙ standing f)
 
 -- the byte of a first command names it, unless it is 05h within the parameter page
 named-test : (f : First) → (in_page f || found_at (first_of (byte_of f)) (place_of f)) ≡ true
 unfolding row_of first_of
 named-test f = each_first (λ (x : First). in_page x || found_at (first_of (byte_of x)) (place_of x)) refl f
 
-pub named : (f : First) → in_page f ≡ false → first_of (byte_of f) ≡ first.Found f
+pub named : (f : First) → in_page f ≡ false → first_of (byte_of f) ≡ Some f
 named f h =
     same_place f (first_of (byte_of f)) (other (in_page f) (found_at (first_of (byte_of f)) (place_of f)) (named-test f) h)

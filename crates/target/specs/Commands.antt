@@ -1,6 +1,6 @@
 -- The command list (document 01, "What the model covers" and "Place"): the first commands and the second commands, what each is
 -- like, and the class of each byte.
-use Rattle.std.specs.Prelude.{ℕ, Bool, true, false, ◌&&◌, ◌||◌, List, [], ◌∷◌, map, get_or, eqb}
+use Rattle.std.specs.Prelude.{ℕ, Bool, true, false, ◌&&◌, ◌||◌, List, [], ◌∷◌, map, get_or, eqb, None, Option, Some}
 use Rattle.target.specs.Pick.{pick}
 use Rattle.target.specs.Words.{has_option}
 use Rattle.target.specs.declared.Words.{Words}
@@ -19,20 +19,16 @@ use Rattle.target.specs.declared.commands.Waits.TheVariants as waits
 use Rattle.target.specs.declared.commands.Act.{Act}
 use Rattle.target.specs.declared.commands.Act.TheVariants as act
 use Rattle.target.specs.declared.commands.FirstRow.{FirstRow}
-use Rattle.target.specs.declared.commands.FirstFound.{FirstFound}
-use Rattle.target.specs.declared.commands.FirstFound.TheVariants as first
 use Rattle.target.specs.declared.commands.SecondRow.{SecondRow}
-use Rattle.target.specs.declared.commands.SecondFound.{SecondFound}
-use Rattle.target.specs.declared.commands.SecondFound.TheVariants as second
 
 -- The first commands.
 
 -- the short list: byte, address cycles, second command (0 where there is none) and another that may stand for it (0 where there is
 -- none), which fields of its row are looked at, what follows its addresses, whether 5 is asked of its LUN, which LUNs 6 waits for,
 -- whether it clears registers, whether its row closes the LUN's copyback, whether its row wants one that is open there, the addresses
--- that a lone address cycle may have, the optional bit that offers it (16: every part has it), and whether its column is one of the
+-- that a lone address cycle may have, the optional bit that offers it (none: every part has it), and whether its column is one of the
 -- parameter page
-abbrev pub first_row : ℕ → ℕ → ℕ → ℕ → Looks → Then → Bool → Waits → Bool → Bool → Bool → ℕ → ℕ → ℕ → Bool → FirstRow
+abbrev pub first_row : ℕ → ℕ → ℕ → ℕ → Looks → Then → Bool → Waits → Bool → Bool → Bool → ℕ → ℕ → Option ℕ → Bool → FirstRow
 first_row b n s alt l t r w c k p x y o m = record {
   byte = b;
   cycles = n;
@@ -53,19 +49,19 @@ first_row b n s alt l t r w c k p x y o m = record {
 
 abbrev pub firsts : List FirstRow
 firsts =
-    first_row 0x00 5 0x30 0x35 looks.Page then.Second true waits.Nobody false false false 0x00 0x00 16 false
-    ∷ first_row 0x05 2 0xe0 0x00 looks.Nothing then.Second true waits.Nobody false false false 0x00 0x00 16 false
-    ∷ first_row 0x06 5 0xe0 0x00 looks.Lun then.Second true waits.Nobody false false false 0x00 0x00 6 false
-    ∷ first_row 0x60 3 0xd0 0x00 looks.Block then.Second true waits.Nobody false false false 0x00 0x00 16 false
-    ∷ first_row 0x70 0 0x00 0x00 looks.Nothing then.Status false waits.Others false false false 0x00 0x00 16 false
-    ∷ first_row 0x78 3 0x00 0x00 looks.Lun then.Status false waits.Nobody false false false 0x00 0x00 3 false
-    ∷ first_row 0x80 5 0x10 0x00 looks.Page then.Data true waits.Nobody true true false 0x00 0x00 16 false
-    ∷ first_row 0x90 1 0x00 0x00 looks.Nothing then.Id false waits.All false false false 0x00 0x20 16 false
-    ∷ first_row 0xec 1 0x00 0x00 looks.Nothing then.ParameterPage false waits.All false false false 0x00 0x00 16 false
-    ∷ first_row 0xee 1 0x00 0x00 looks.Nothing then.FeatureOut false waits.All false false false 0x01 0x01 2 false
-    ∷ first_row 0xef 1 0x00 0x00 looks.Nothing then.FeatureIn false waits.All false false false 0x01 0x01 2 false
-    ∷ first_row 0x85 5 0x10 0x00 looks.Page then.Data true waits.Nobody false false true 0x00 0x00 4 false
-    ∷ first_row 0x05 2 0xe0 0x00 looks.Nothing then.Second false waits.Nobody false false false 0x00 0x00 16 true
+    first_row 0x00 5 0x30 0x35 looks.Page then.Second true waits.Nobody false false false 0x00 0x00 None false
+    ∷ first_row 0x05 2 0xe0 0x00 looks.Nothing then.Second true waits.Nobody false false false 0x00 0x00 None false
+    ∷ first_row 0x06 5 0xe0 0x00 looks.Lun then.Second true waits.Nobody false false false 0x00 0x00 (Some 6) false
+    ∷ first_row 0x60 3 0xd0 0x00 looks.Block then.Second true waits.Nobody false false false 0x00 0x00 None false
+    ∷ first_row 0x70 0 0x00 0x00 looks.Nothing then.Status false waits.Others false false false 0x00 0x00 None false
+    ∷ first_row 0x78 3 0x00 0x00 looks.Lun then.Status false waits.Nobody false false false 0x00 0x00 (Some 3) false
+    ∷ first_row 0x80 5 0x10 0x00 looks.Page then.Data true waits.Nobody true true false 0x00 0x00 None false
+    ∷ first_row 0x90 1 0x00 0x00 looks.Nothing then.Id false waits.All false false false 0x00 0x20 None false
+    ∷ first_row 0xec 1 0x00 0x00 looks.Nothing then.ParameterPage false waits.All false false false 0x00 0x00 None false
+    ∷ first_row 0xee 1 0x00 0x00 looks.Nothing then.FeatureOut false waits.All false false false 0x01 0x01 (Some 2) false
+    ∷ first_row 0xef 1 0x00 0x00 looks.Nothing then.FeatureIn false waits.All false false false 0x01 0x01 (Some 2) false
+    ∷ first_row 0x85 5 0x10 0x00 looks.Page then.Data true waits.Nobody false false true 0x00 0x00 (Some 4) false
+    ∷ first_row 0x05 2 0xe0 0x00 looks.Nothing then.Second false waits.Nobody false false false 0x00 0x00 None true
     ∷ []
 
 -- the place of a first command in that list
@@ -91,7 +87,7 @@ first_commands = Read ∷ ChangeColumn ∷ ChangeColumnEnhanced ∷ Erase ∷ St
 unfoldable pub row_of : First → FirstRow
 row_of f =
     get_or firsts (place_of f)
-    (first_row 0 0 0 0 looks.Nothing then.Second false waits.Nobody false false false 0 0 0 false)
+    (first_row 0 0 0 0 looks.Nothing then.Second false waits.Nobody false false false 0 0 None false)
 
 abbrev pub byte_of : First → ℕ
 byte_of f = (row_of f).byte
@@ -180,36 +176,41 @@ abbrev pub takes_program_data : First → Bool
 takes_program_data f = is_data (then_of f)
 
 -- the first command of the list with this byte; 05h stands there twice, and the place reached says which of the two it is
-abbrev pub first_in : List First → ℕ → FirstFound
-first_in [] v = first.Nothing
-first_in (f ∷ fs) v = pick (eqb v (byte_of f)) (first.Found f) (first_in fs v)
+abbrev pub first_in : List First → ℕ → Option First
+first_in [] v = None
+first_in (f ∷ fs) v = pick (eqb v (byte_of f)) (Some f) (first_in fs v)
 
-unfoldable pub first_of : ℕ → FirstFound
+unfoldable pub first_of : ℕ → Option First
 first_of v = first_in first_commands v
+
+-- a part has what no bit stands for, and else what its bit offers
+abbrev pub offers : Words → Option ℕ → Bool
+offers w None = true
+offers w (Some k) = has_option w k
 
 -- 78h, 06h, EEh, EFh and 85h are optional: optional bit 3, 6, 2, 2 and 4
 abbrev pub offered_to : Words → First → Bool
-offered_to w f = eqb (row_of f).option 16 || has_option w (row_of f).option
+offered_to w f = offers w (row_of f).option
 
-abbrev pub offered_found : Words → FirstFound → Bool
-offered_found w first.Nothing = true
-offered_found w (first.Found f) = offered_to w f
+abbrev pub offered_found : Words → Option First → Bool
+offered_found w None = true
+offered_found w (Some f) = offered_to w f
 
 -- The second commands.
 
 -- byte; whether the LUN works from it on; whether 7 guards it; whether it puts the register out; what it does with the page or block;
--- whether it opens a copyback on the LUN, and whether it closes it; the optional bit that offers it (16: every part has it)
-abbrev pub second_line : ℕ → Bool → Bool → Bool → Act → Bool → Bool → ℕ → SecondRow
+-- whether it opens a copyback on the LUN, and whether it closes it; the optional bit that offers it (none: every part has it)
+abbrev pub second_line : ℕ → Bool → Bool → Bool → Act → Bool → Bool → Option ℕ → SecondRow
 second_line b s g x a o c n = record { byte = b; starts = s; guarded = g; shows = x; act = a; opens = o; closes = c; option = n }
 
 abbrev pub seconds : List SecondRow
 seconds =
-    second_line 0x30 true false true act.Load false true 16
-    ∷ second_line 0xe0 false false true act.Nothing false false 16
-    ∷ second_line 0x10 true true false act.Program false false 16
-    ∷ second_line 0xd0 true true false act.Erase false true 16
-    ∷ second_line 0x85 false false false act.Move false false 16
-    ∷ second_line 0x35 true false true act.Load true false 4
+    second_line 0x30 true false true act.Load false true None
+    ∷ second_line 0xe0 false false true act.Nothing false false None
+    ∷ second_line 0x10 true true false act.Program false false None
+    ∷ second_line 0xd0 true true false act.Erase false true None
+    ∷ second_line 0x85 false false false act.Move false false None
+    ∷ second_line 0x35 true false true act.Load true false (Some 4)
     ∷ []
 
 abbrev pub second_place : Second → ℕ
@@ -225,26 +226,26 @@ second_commands = StartRead ∷ StartOutput ∷ StartProgram ∷ StartErase ∷ 
 
 unfoldable pub second_row : Second → SecondRow
 second_row s =
-    get_or seconds (second_place s) (second_line 0 false false false act.Nothing false false 0)
+    get_or seconds (second_place s) (second_line 0 false false false act.Nothing false false None)
 
 abbrev pub second_byte : Second → ℕ
 second_byte s = (second_row s).byte
 
-abbrev pub second_in : List Second → ℕ → SecondFound
-second_in [] v = second.Nothing
-second_in (s ∷ ss) v = pick (eqb v (second_byte s)) (second.Found s) (second_in ss v)
+abbrev pub second_in : List Second → ℕ → Option Second
+second_in [] v = None
+second_in (s ∷ ss) v = pick (eqb v (second_byte s)) (Some s) (second_in ss v)
 
-unfoldable pub second_of : ℕ → SecondFound
+unfoldable pub second_of : ℕ → Option Second
 second_of v = second_in second_commands v
 
 -- 35h is optional: optional bit 4
-abbrev pub offered_second : Words → SecondFound → Bool
-offered_second w second.Nothing = true
-offered_second w (second.Found s) = eqb (second_row s).option 16 || has_option w (second_row s).option
+abbrev pub offered_second : Words → Option Second → Bool
+offered_second w None = true
+offered_second w (Some s) = offers w (second_row s).option
 
-abbrev pub is_second_found : SecondFound → Bool
-is_second_found second.Nothing = false
-is_second_found (second.Found s) = true
+abbrev pub is_second_found : Option Second → Bool
+is_second_found None = false
+is_second_found (Some s) = true
 
 -- the part has the command of this byte; while a sequence is open a byte of both lists is the second command
 unfoldable pub offered : Words → Bool → ℕ → Bool

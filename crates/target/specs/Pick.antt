@@ -1,8 +1,6 @@
 -- A choice by a test.
-use Rattle.std.specs.Prelude.{Bool, true, false}
+use Rattle.std.specs.Prelude.{Bool, true, false, Err, Result}
 use Rattle.target.specs.declared.Refusal.{Refusal}
-use Rattle.target.specs.declared.Verdict.{Verdict}
-use Rattle.target.specs.declared.Verdict.TheVariants.{Refused}
 
 -- the first where the test holds, else the second
 abbrev pub pick : {A : Type 0} → Bool → A → A → A
@@ -10,5 +8,5 @@ pick true a b = a
 pick false a b = b
 
 -- the refusal where its rule holds, else what the later rules say
-unfoldable pub or_else : Bool → Refusal → Verdict → Verdict
-or_else b r v = pick b (Refused r) v
+unfoldable pub or_else : Bool → Refusal → Result Unit Refusal → Result Unit Refusal
+or_else b r v = pick b (Err r) v

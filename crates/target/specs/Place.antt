@@ -1,21 +1,19 @@
 -- The place reached (document 01, "Place"; document 02, A2): what the open sequence and the open output take next, and what is kept of
 -- the output behind a status.
-use Rattle.std.specs.Prelude.{ℕ, Bool, true, false, ◌&&◌, ◌||◌, eqb}
+use Rattle.std.specs.Prelude.{ℕ, Bool, true, false, ◌&&◌, ◌||◌, eqb, None, Option, Some}
 use Rattle.target.specs.Pick.{pick}
 use Rattle.target.specs.Commands.{class_of, is_first, byte_of, first_of}
 use Rattle.target.specs.Views.{taking, ending}
 use Rattle.target.specs.declared.Sequence.{Sequence}
 use Rattle.target.specs.declared.Sequence.TheVariants.{Idle, Columns, Rows, Single, Due, Filling, Moving, Setting}
 use Rattle.target.specs.declared.First.TheVariants.{ChangeColumnInPage}
-use Rattle.target.specs.declared.commands.FirstFound.{FirstFound}
-use Rattle.target.specs.declared.commands.FirstFound.TheVariants as first
 use Rattle.target.specs.declared.Decoder.{Decoder}
 use Rattle.target.specs.declared.Output.{Output}
 use Rattle.target.specs.declared.Output.TheVariants as output
 use Rattle.target.specs.declared.views.Taker.{Taker}
 use Rattle.target.specs.declared.views.Taker.TheVariants as takes
-use Rattle.target.specs.declared.views.Ender.{Ender}
-use Rattle.target.specs.declared.views.Ender.TheVariants as ends
+use Rattle.target.specs.declared.views.Ended.{Ended}
+use Rattle.target.specs.declared.First.{First}
 
 -- a sequence is open
 abbrev pub is_open : Sequence → Bool
@@ -28,9 +26,9 @@ is_open (Filling k) = true
 is_open (Moving k) = true
 is_open (Setting k) = true
 
-abbrev pub is_ended : Ender → Bool
-is_ended ends.Nothing = false
-is_ended (ends.By k) = true
+abbrev pub is_ended : Option Ended → Bool
+is_ended None = false
+is_ended (Some k) = true
 
 -- a command other than FFh fits: with no sequence open a first command, else the second one that the sequence waits for
 abbrev pub command_fits : Sequence → ℕ → Bool
@@ -51,10 +49,10 @@ takes_address (Filling k) = false
 takes_address (Moving k) = true
 takes_address (Setting k) = false
 
-abbrev pub is_taken : Taker → Bool
-is_taken takes.Nothing = false
-is_taken (takes.Program k) = true
-is_taken (takes.Feature k) = true
+abbrev pub is_taken : Option Taker → Bool
+is_taken None = false
+is_taken (Some (takes.Program k)) = true
+is_taken (Some (takes.Feature k)) = true
 
 -- a data-in cycle fits
 abbrev pub takes_data : Sequence → Bool
@@ -106,8 +104,8 @@ is_register_of l (output.Signature at) = false
 is_register_of l (output.Feature at) = false
 
 -- the first command that a byte is at this place: with the parameter page open, or kept behind a status, 05h moves within it
-abbrev pub first_here : Decoder → ℕ → FirstFound
-first_here d v = pick (eqb v 0x05 && (is_page d.output || is_page d.kept)) (first.Found ChangeColumnInPage) (first_of v)
+abbrev pub first_here : Decoder → ℕ → Option First
+first_here d v = pick (eqb v 0x05 && (is_page d.output || is_page d.kept)) (Some ChangeColumnInPage) (first_of v)
 
 -- a data-out cycle fits
 abbrev pub has_output : Output → Bool

@@ -1,4 +1,4 @@
-// Bits of the feature and optional-command words.
+// Bits of the feature and optional-command words. `page` reads bits of its bytes by a function of its own: it stands below this crate.
 ghost use Rattle.std.specs.Prelude.{◌≡◌};
 ghost use Rattle.target.specs.Words.{bit_of, has_feature, has_option};
 

@@ -1,6 +1,6 @@
 // The command list: each byte's class, the first commands and the second commands, and what each is like.
 ghost use Rattle.std.specs.Prelude.{◌≡◌};
-ghost use Rattle.target.specs.Commands.{class_of, is_first, is_known, first_of, place_of, row_of, byte_of, cycles_of, end_of, looks_of, then_of, needs_ready, waits_for, clears_register, knows_address, takes_column, takes_row, waits_second, second_row, second_of, offered_to, offered_found, offered_second, is_second_found, offered, other_end, closes_copyback, needs_copyback, takes_program_data, gives_status, in_page};
+ghost use Rattle.target.specs.Commands.{class_of, is_first, is_known, first_of, place_of, row_of, byte_of, cycles_of, end_of, looks_of, then_of, needs_ready, waits_for, clears_register, knows_address, takes_column, takes_row, waits_second, second_row, second_of, offers, offered_to, offered_found, offered_second, is_second_found, offered, other_end, closes_copyback, needs_copyback, takes_program_data, gives_status, in_page};
 
 use crate::bits::has_option;
 use crate::{First, Second, Words};
@@ -15,7 +15,8 @@ pub enum Class {
     Unknown,
 }
 
-// 0 unknown, 1 first, 2 second, 3 both, 4 alone.
+// 0 unknown, 1 first, 2 second, 3 both, 4 alone. Numbers, and no `Class`es: of a table of enum values the function that looks
+// into it gets a local for each entry, and its proof did not close.
 const CLASSES: [u8; 256] = [
     1, 0, 0, 0, 0, 1, 1, 0, 0, 0, 0, 0, 0, 0, 0, 0, 2, 0, 0, 0, 0, 0, 0, 0, 0, 0, 0, 0, 0, 0, 0, 0,
     0, 0, 0, 0, 0, 0, 0, 0, 0, 0, 0, 0, 0, 0, 0, 0, 2, 0, 0, 0, 0, 2, 0, 0, 0, 0, 0, 0, 0, 0, 0, 0,
@@ -30,46 +31,32 @@ const CLASSES: [u8; 256] = [
 pub fn class_of(v: u8) -> Class
     ensures { result ≡ class_of v }
 {
-    let n = CLASSES[v as usize];
-    if n == 1 {
-        return Class::First;
+    match CLASSES[v as usize] {
+        1 => Class::First,
+        2 => Class::Second,
+        3 => Class::Both,
+        4 => Class::Alone,
+        _ => Class::Unknown,
     }
-    if n == 2 {
-        return Class::Second;
-    }
-    if n == 3 {
-        return Class::Both;
-    }
-    if n == 4 {
-        return Class::Alone;
-    }
-    Class::Unknown
 }
 
 // The byte opens a sequence: it is in the list of first commands.
+#[tactic(auto, using(crate::proofs::Classes::found_class))]
 pub fn is_first(v: u8) -> bool
     ensures { result ≡ is_first (class_of v) }
 {
-    match first_of(v) {
-        FirstFound::Nothing => false,
-        FirstFound::Found(_) => true,
-    }
+    first_of(v).is_some()
 }
 
 // The byte is listed.
 pub fn is_known(v: u8) -> bool
     ensures { result ≡ is_known (class_of v) }
 {
-    match class_of(v) {
-        Class::First => true,
-        Class::Second => true,
-        Class::Both => true,
-        Class::Alone => true,
-        Class::Unknown => false,
-    }
+    !matches!(class_of(v), Class::Unknown)
 }
 
-// Which fields of a command's row are looked at.
+// Which fields of a command's row are looked at. Here and in `Waits` and `Act` 'nothing' is one of the answers that a row of the lists
+// gives, as the others are, and an Option would be read as one that is not given.
 #[derive(Clone, Copy)]
 pub enum Looks {
     // it has no row
@@ -115,9 +102,9 @@ pub struct FirstRow {
     pub byte: u8,
     // how many address cycles follow
     pub cycles: u8,
-    // the second command's byte, 0 where there is none (00h is no second command)
+    // the second command's byte, and 0 where there is none: 00h is no second command, and `end_of` gives a byte for each
     pub second: u8,
-    // another second command that may stand for it, 0 where there is none
+    // another second command that may stand for it, and 0 where there is none, as for `second`
     pub or: u8,
     pub looks: Looks,
     pub then: Then,
@@ -133,11 +120,30 @@ pub struct FirstRow {
     // the two values that its one address may have
     pub one: u8,
     pub other: u8,
-    // the bit of the optional-command word that offers it; 16 where every part has it
-    pub option: u8,
+    // the bit of the optional-command word that offers it; none where every part has it
+    pub option: Option<u8>,
     // its column is one of the parameter page
     pub page: bool,
 }
+
+// What most rows say: a command with no addresses and no second one, that nothing is asked of and every part has.
+const PLAIN: FirstRow = FirstRow {
+    byte: 0x00,
+    cycles: 0,
+    second: 0x00,
+    or: 0x00,
+    looks: Looks::Nothing,
+    then: Then::Second,
+    ready: false,
+    waits: Waits::Nobody,
+    clears: false,
+    closes: false,
+    copies: false,
+    one: 0x00,
+    other: 0x00,
+    option: None,
+    page: false,
+};
 
 const READ: FirstRow = FirstRow {
     byte: 0x00,
@@ -145,232 +151,122 @@ const READ: FirstRow = FirstRow {
     second: 0x30,
     or: 0x35,
     looks: Looks::Page,
-    then: Then::Second,
     ready: true,
-    waits: Waits::Nobody,
-    clears: false,
-    closes: false,
-    copies: false,
-    one: 0x00,
-    other: 0x00,
-    option: 16,
-    page: false,
+    ..PLAIN
 };
 
 const CHANGE_COLUMN: FirstRow = FirstRow {
     byte: 0x05,
     cycles: 2,
     second: 0xe0,
-    or: 0x00,
-    looks: Looks::Nothing,
-    then: Then::Second,
     ready: true,
-    waits: Waits::Nobody,
-    clears: false,
-    closes: false,
-    copies: false,
-    one: 0x00,
-    other: 0x00,
-    option: 16,
-    page: false,
+    ..PLAIN
 };
 
 const CHANGE_COLUMN_ENHANCED: FirstRow = FirstRow {
     byte: 0x06,
     cycles: 5,
     second: 0xe0,
-    or: 0x00,
     looks: Looks::Lun,
-    then: Then::Second,
     ready: true,
-    waits: Waits::Nobody,
-    clears: false,
-    closes: false,
-    copies: false,
-    one: 0x00,
-    other: 0x00,
-    option: 6,
-    page: false,
+    option: Some(6),
+    ..PLAIN
 };
 
 const ERASE: FirstRow = FirstRow {
     byte: 0x60,
     cycles: 3,
     second: 0xd0,
-    or: 0x00,
     looks: Looks::Block,
-    then: Then::Second,
     ready: true,
-    waits: Waits::Nobody,
-    clears: false,
-    closes: false,
-    copies: false,
-    one: 0x00,
-    other: 0x00,
-    option: 16,
-    page: false,
+    ..PLAIN
 };
 
 const STATUS: FirstRow = FirstRow {
     byte: 0x70,
-    cycles: 0,
-    second: 0x00,
-    or: 0x00,
-    looks: Looks::Nothing,
     then: Then::Status,
-    ready: false,
     waits: Waits::Others,
-    clears: false,
-    closes: false,
-    copies: false,
-    one: 0x00,
-    other: 0x00,
-    option: 16,
-    page: false,
+    ..PLAIN
 };
 
 const STATUS_ENHANCED: FirstRow = FirstRow {
     byte: 0x78,
     cycles: 3,
-    second: 0x00,
-    or: 0x00,
     looks: Looks::Lun,
     then: Then::Status,
-    ready: false,
-    waits: Waits::Nobody,
-    clears: false,
-    closes: false,
-    copies: false,
-    one: 0x00,
-    other: 0x00,
-    option: 3,
-    page: false,
+    option: Some(3),
+    ..PLAIN
 };
 
 const PROGRAM: FirstRow = FirstRow {
     byte: 0x80,
     cycles: 5,
     second: 0x10,
-    or: 0x00,
     looks: Looks::Page,
     then: Then::Data,
     ready: true,
-    waits: Waits::Nobody,
     clears: true,
     closes: true,
-    copies: false,
-    one: 0x00,
-    other: 0x00,
-    option: 16,
-    page: false,
+    ..PLAIN
 };
 
 const READ_ID: FirstRow = FirstRow {
     byte: 0x90,
     cycles: 1,
-    second: 0x00,
-    or: 0x00,
-    looks: Looks::Nothing,
     then: Then::Id,
-    ready: false,
     waits: Waits::All,
-    clears: false,
-    closes: false,
-    copies: false,
-    one: 0x00,
     other: 0x20,
-    option: 16,
-    page: false,
+    ..PLAIN
 };
 
 const PARAMETER_PAGE: FirstRow = FirstRow {
     byte: 0xec,
     cycles: 1,
-    second: 0x00,
-    or: 0x00,
-    looks: Looks::Nothing,
     then: Then::ParameterPage,
-    ready: false,
     waits: Waits::All,
-    clears: false,
-    closes: false,
-    copies: false,
-    one: 0x00,
-    other: 0x00,
-    option: 16,
-    page: false,
+    ..PLAIN
 };
 
 const GET_FEATURES: FirstRow = FirstRow {
     byte: 0xee,
     cycles: 1,
-    second: 0x00,
-    or: 0x00,
-    looks: Looks::Nothing,
     then: Then::FeatureOut,
-    ready: false,
     waits: Waits::All,
-    clears: false,
-    closes: false,
-    copies: false,
     one: 0x01,
     other: 0x01,
-    option: 2,
-    page: false,
+    option: Some(2),
+    ..PLAIN
 };
 
 const SET_FEATURES: FirstRow = FirstRow {
     byte: 0xef,
     cycles: 1,
-    second: 0x00,
-    or: 0x00,
-    looks: Looks::Nothing,
     then: Then::FeatureIn,
-    ready: false,
     waits: Waits::All,
-    clears: false,
-    closes: false,
-    copies: false,
     one: 0x01,
     other: 0x01,
-    option: 2,
-    page: false,
+    option: Some(2),
+    ..PLAIN
 };
 
 const COPYBACK_PROGRAM: FirstRow = FirstRow {
     byte: 0x85,
     cycles: 5,
     second: 0x10,
-    or: 0x00,
     looks: Looks::Page,
     then: Then::Data,
     ready: true,
-    waits: Waits::Nobody,
-    clears: false,
-    closes: false,
     copies: true,
-    one: 0x00,
-    other: 0x00,
-    option: 4,
-    page: false,
+    option: Some(4),
+    ..PLAIN
 };
 
 const CHANGE_COLUMN_IN_PAGE: FirstRow = FirstRow {
     byte: 0x05,
     cycles: 2,
     second: 0xe0,
-    or: 0x00,
-    looks: Looks::Nothing,
-    then: Then::Second,
-    ready: false,
-    waits: Waits::Nobody,
-    clears: false,
-    closes: false,
-    copies: false,
-    one: 0x00,
-    other: 0x00,
-    option: 16,
     page: true,
+    ..PLAIN
 };
 
 // The list of first commands.
@@ -390,31 +286,25 @@ const FIRSTS: [FirstRow; 13] = [
     CHANGE_COLUMN_IN_PAGE,
 ];
 
-// A first command, or none.
-#[derive(Clone, Copy)]
-pub enum FirstFound {
-    Nothing,
-    Found(First),
-}
-
 // The first command with this byte; `place::first_here` says when 05h is the one within the parameter page.
-pub fn first_of(v: u8) -> FirstFound
+#[tactic(auto, unfolding(crate::specs::Commands::first_of, crate::specs::Commands::row_of))]
+pub fn first_of(v: u8) -> Option<First>
     ensures { result ≡ first_of v }
 {
     match v {
-        0x00 => FirstFound::Found(First::Read),
-        0x05 => FirstFound::Found(First::ChangeColumn),
-        0x06 => FirstFound::Found(First::ChangeColumnEnhanced),
-        0x60 => FirstFound::Found(First::Erase),
-        0x70 => FirstFound::Found(First::Status),
-        0x78 => FirstFound::Found(First::StatusEnhanced),
-        0x80 => FirstFound::Found(First::Program),
-        0x90 => FirstFound::Found(First::ReadId),
-        0xec => FirstFound::Found(First::ParameterPage),
-        0xee => FirstFound::Found(First::GetFeatures),
-        0xef => FirstFound::Found(First::SetFeatures),
-        0x85 => FirstFound::Found(First::CopybackProgram),
-        _ => FirstFound::Nothing,
+        0x00 => Some(First::Read),
+        0x05 => Some(First::ChangeColumn),
+        0x06 => Some(First::ChangeColumnEnhanced),
+        0x60 => Some(First::Erase),
+        0x70 => Some(First::Status),
+        0x78 => Some(First::StatusEnhanced),
+        0x80 => Some(First::Program),
+        0x90 => Some(First::ReadId),
+        0xec => Some(First::ParameterPage),
+        0xee => Some(First::GetFeatures),
+        0xef => Some(First::SetFeatures),
+        0x85 => Some(First::CopybackProgram),
+        _ => None,
     }
 }
 
@@ -443,12 +333,12 @@ pub fn place_of(f: First) -> usize
 pub fn listed(f: First) -> FirstRow
     ensures { result ≡ row_of f }
 {
-    let i = place_of(f);
-    FIRSTS[i]
+    FIRSTS[place_of(f)]
 }
 
 // The same row by the command's name. A list that is indexed is made anew at each look-up; of these arms the compiler makes
 // constants, which are looked up in a few instructions.
+#[tactic(auto, unfolding(crate::specs::Commands::row_of))]
 pub fn row_of(f: First) -> FirstRow
     ensures { result ≡ row_of f }
 {
@@ -472,89 +362,77 @@ pub fn row_of(f: First) -> FirstRow
 pub fn byte_of(f: First) -> u8
     ensures { result ≡ byte_of f }
 {
-    let row = row_of(f);
-    row.byte
+    row_of(f).byte
 }
 
 pub fn cycles_of(f: First) -> u8
     ensures { result ≡ cycles_of f }
 {
-    let row = listed(f);
-    row.cycles
+    listed(f).cycles
 }
 
 pub fn end_of(f: First) -> u8
     ensures { result ≡ end_of f }
 {
-    let row = row_of(f);
-    row.second
+    row_of(f).second
 }
 
 // Another second command that may stand for its own.
 pub fn other_end(f: First) -> u8
     ensures { result ≡ other_end f }
 {
-    let row = row_of(f);
-    row.or
+    row_of(f).or
 }
 
 pub fn looks_of(f: First) -> Looks
     ensures { result ≡ looks_of f }
 {
-    let row = row_of(f);
-    row.looks
+    row_of(f).looks
 }
 
 pub fn then_of(f: First) -> Then
     ensures { result ≡ then_of f }
 {
-    let row = row_of(f);
-    row.then
+    row_of(f).then
 }
 
 pub fn needs_ready(f: First) -> bool
     ensures { result ≡ needs_ready f }
 {
-    let row = row_of(f);
-    row.ready
+    row_of(f).ready
 }
 
 pub fn waits_for(f: First) -> Waits
     ensures { result ≡ waits_for f }
 {
-    let row = row_of(f);
-    row.waits
+    row_of(f).waits
 }
 
 pub fn clears_register(f: First) -> bool
     ensures { result ≡ clears_register f }
 {
-    let row = row_of(f);
-    row.clears
+    row_of(f).clears
 }
 
 // Its row closes the LUN's copyback.
 pub fn closes_copyback(f: First) -> bool
     ensures { result ≡ closes_copyback f }
 {
-    let row = row_of(f);
-    row.closes
+    row_of(f).closes
 }
 
 // Its row wants the LUN's copyback open.
 pub fn needs_copyback(f: First) -> bool
     ensures { result ≡ needs_copyback f }
 {
-    let row = row_of(f);
-    row.copies
+    row_of(f).copies
 }
 
 // Its column is one of the parameter page.
 pub fn in_page(f: First) -> bool
     ensures { result ≡ in_page f }
 {
-    let row = row_of(f);
-    row.page
+    row_of(f).page
 }
 
 // The one address of 90h, ECh, EEh or EFh is one that it knows.
@@ -562,67 +440,49 @@ pub fn knows_address(f: First, v: u8) -> bool
     ensures { result ≡ knows_address f v }
 {
     let row = row_of(f);
-    (v == row.one) | (v == row.other)
+    v == row.one || v == row.other
 }
 
 pub fn takes_column(f: First) -> bool
     ensures { result ≡ takes_column f }
 {
-    let row = row_of(f);
-    let n = row.cycles;
-    (n == 2) | (n == 5)
+    matches!(row_of(f).cycles, 2 | 5)
 }
 
 pub fn takes_row(f: First) -> bool
     ensures { result ≡ takes_row f }
 {
-    let row = row_of(f);
-    let n = row.cycles;
-    (n == 3) | (n == 5)
+    matches!(row_of(f).cycles, 3 | 5)
 }
 
 // Its second command is due once its addresses have come.
 pub fn waits_second(f: First) -> bool
     ensures { result ≡ waits_second f }
 {
-    match then_of(f) {
-        Then::Second => true,
-        Then::Data => false,
-        Then::FeatureIn => false,
-        Then::Status => false,
-        Then::Id => false,
-        Then::ParameterPage => false,
-        Then::FeatureOut => false,
-    }
+    matches!(then_of(f), Then::Second)
 }
 
 // A status comes out.
 pub fn gives_status(f: First) -> bool
     ensures { result ≡ gives_status f }
 {
-    match then_of(f) {
-        Then::Second => false,
-        Then::Data => false,
-        Then::FeatureIn => false,
-        Then::Status => true,
-        Then::Id => false,
-        Then::ParameterPage => false,
-        Then::FeatureOut => false,
-    }
+    matches!(then_of(f), Then::Status)
 }
 
 // Data goes into a program once its addresses have come.
 pub fn takes_program_data(f: First) -> bool
     ensures { result ≡ takes_program_data f }
 {
-    match then_of(f) {
-        Then::Second => false,
-        Then::Data => true,
-        Then::FeatureIn => false,
-        Then::Status => false,
-        Then::Id => false,
-        Then::ParameterPage => false,
-        Then::FeatureOut => false,
+    matches!(then_of(f), Then::Data)
+}
+
+// The part has what no bit stands for, and else what its bit offers.
+pub fn offers(w: Words, bit: Option<u8>) -> bool
+    ensures { result ≡ offers w bit }
+{
+    match bit {
+        Some(k) => has_option(w, k),
+        None => true,
     }
 }
 
@@ -630,17 +490,16 @@ pub fn takes_program_data(f: First) -> bool
 pub fn offered_to(w: Words, f: First) -> bool
     ensures { result ≡ offered_to w f }
 {
-    let row = row_of(f);
-    (row.option == 16) | has_option(w, row.option)
+    offers(w, row_of(f).option)
 }
 
 // The part has the first command.
-pub fn offered_first(w: Words, k: FirstFound) -> bool
+pub fn offered_first(w: Words, k: Option<First>) -> bool
     ensures { result ≡ offered_found w k }
 {
     match k {
-        FirstFound::Nothing => true,
-        FirstFound::Found(f) => offered_to(w, f),
+        Some(f) => offered_to(w, f),
+        None => true,
     }
 }
 
@@ -670,99 +529,88 @@ pub struct SecondRow {
     pub opens: bool,
     // the LUN's copyback is closed
     pub closes: bool,
-    // the bit of the optional-command word that offers it; 16 where every part has it
-    pub option: u8,
+    // the bit of the optional-command word that offers it; none where every part has it
+    pub option: Option<u8>,
 }
+
+// A second command that does nothing more.
+const NO_MORE: SecondRow = SecondRow {
+    byte: 0x00,
+    starts: false,
+    guarded: false,
+    shows: false,
+    act: Act::Nothing,
+    opens: false,
+    closes: false,
+    option: None,
+};
 
 const START_READ: SecondRow = SecondRow {
     byte: 0x30,
     starts: true,
-    guarded: false,
     shows: true,
     act: Act::Load,
-    opens: false,
     closes: true,
-    option: 16,
+    ..NO_MORE
 };
 
 const START_OUTPUT: SecondRow = SecondRow {
     byte: 0xe0,
-    starts: false,
-    guarded: false,
     shows: true,
-    act: Act::Nothing,
-    opens: false,
-    closes: false,
-    option: 16,
+    ..NO_MORE
 };
 
 const START_PROGRAM: SecondRow = SecondRow {
     byte: 0x10,
     starts: true,
     guarded: true,
-    shows: false,
     act: Act::Program,
-    opens: false,
-    closes: false,
-    option: 16,
+    ..NO_MORE
 };
 
 const START_ERASE: SecondRow = SecondRow {
     byte: 0xd0,
     starts: true,
     guarded: true,
-    shows: false,
     act: Act::Erase,
-    opens: false,
     closes: true,
-    option: 16,
+    ..NO_MORE
 };
 
 const MOVE: SecondRow = SecondRow {
     byte: 0x85,
-    starts: false,
-    guarded: false,
-    shows: false,
     act: Act::Move,
-    opens: false,
-    closes: false,
-    option: 16,
+    ..NO_MORE
 };
 
 const START_COPYBACK: SecondRow = SecondRow {
     byte: 0x35,
     starts: true,
-    guarded: false,
     shows: true,
     act: Act::Load,
     opens: true,
-    closes: false,
-    option: 4,
+    option: Some(4),
+    ..NO_MORE
 };
 
-// A second command, or none.
-#[derive(Clone, Copy)]
-pub enum SecondFound {
-    Nothing,
-    Found(Second),
-}
-
 // The second command with this byte.
-pub fn second_of(v: u8) -> SecondFound
+#[tactic(auto, unfolding(crate::specs::Commands::second_of, crate::specs::Commands::second_row))]
+pub fn second_of(v: u8) -> Option<Second>
     ensures { result ≡ second_of v }
 {
     match v {
-        0x30 => SecondFound::Found(Second::StartRead),
-        0xe0 => SecondFound::Found(Second::StartOutput),
-        0x10 => SecondFound::Found(Second::StartProgram),
-        0xd0 => SecondFound::Found(Second::StartErase),
-        0x85 => SecondFound::Found(Second::Move),
-        0x35 => SecondFound::Found(Second::StartCopyback),
-        _ => SecondFound::Nothing,
+        0x30 => Some(Second::StartRead),
+        0xe0 => Some(Second::StartOutput),
+        0x10 => Some(Second::StartProgram),
+        0xd0 => Some(Second::StartErase),
+        0x85 => Some(Second::Move),
+        0x35 => Some(Second::StartCopyback),
+        _ => None,
     }
 }
 
 // The command's row of the list.
+#[tactic(auto, unfolding(crate::specs::Commands::second_row))]
 pub fn second_row(s: Second) -> SecondRow
     ensures { result ≡ second_row s }
 {
@@ -777,31 +625,27 @@ pub fn second_row(s: Second) -> SecondRow
 }
 
 // The part has the second command.
-pub fn offered_second(w: Words, k: SecondFound) -> bool
+pub fn offered_second(w: Words, k: Option<Second>) -> bool
     ensures { result ≡ offered_second w k }
 {
     match k {
-        SecondFound::Nothing => true,
-        SecondFound::Found(s) => {
-            let row = second_row(s);
-            (row.option == 16) | has_option(w, row.option)
-        }
+        Some(s) => offers(w, second_row(s).option),
+        None => true,
     }
 }
 
-pub fn is_second_found(k: SecondFound) -> bool
+pub fn is_second_found(k: Option<Second>) -> bool
     ensures { result ≡ is_second_found k }
 {
-    match k {
-        SecondFound::Nothing => false,
-        SecondFound::Found(_) => true,
-    }
+    k.is_some()
 }
 
 // The part has the command of this byte. While a sequence is open a byte of both lists is the second command: 85h, a program's move.
+#[tactic(auto, unfolding(crate::specs::Commands::offered))]
 pub fn offered(w: Words, inside: bool, v: u8) -> bool
     ensures { result ≡ offered w inside v }
 {
     let second = second_of(v);
-    offered_second(w, second) & ((inside & is_second_found(second)) | offered_first(w, first_of(v)))
+    offered_second(w, second)
+        && ((inside && is_second_found(second)) || offered_first(w, first_of(v)))
 }

@@ -1,12 +1,11 @@
 // The target's record and its parts, all by value: events, replies and refusals, addresses, the command list, and the place
-// that a sequence of bus cycles has reached. No function here has a `requires`, and none sees a lent buffer.
+// that a sequence of bus cycles has reached. No function here but `sizes::sized` has a `requires`, and none sees a lent buffer.
 #![tactic(auto)]
 
 pub mod address;
 pub mod bits;
 pub mod commands;
 pub mod events;
-pub mod picks;
 pub mod place;
 pub mod records;
 pub mod sizes;
@@ -96,7 +95,7 @@ pub enum First {
     ChangeColumnInPage,
 }
 
-// The second commands; `commands::SECONDS` is their list.
+// The second commands; `commands::second_row` has what each is like.
 #[derive(Clone, Copy)]
 pub enum Second {
     // 30h: the page is read
@@ -113,7 +112,8 @@ pub enum Second {
     StartCopyback,
 }
 
-// Column cycles: `got` of two have come, the first of which was `low`.
+// Column cycles: `got` of two have come, the first of which was `low`. Here and below these stay numbers and no Option: a host's
+// record has both, and rule 13 looks at each by itself.
 #[derive(Clone, Copy)]
 pub struct ColumnCycles {
     pub first: First,
@@ -163,7 +163,7 @@ pub struct FeatureBytes {
     pub value: u8,
 }
 
-// The open sequence, by its shape. A `Column` or a `Row` is whole; bytes of a half-given one stand in `low` and `mid`.
+// The open sequence, by its shape; `Idle` is a case among the others as `Nothing` is of `Output`. A `Column` or a `Row` is whole; bytes of a half-given one stand in `low` and `mid`.
 #[derive(Clone, Copy)]
 pub enum Sequence {
     Idle,
@@ -177,7 +177,8 @@ pub enum Sequence {
     Setting(FeatureBytes),
 }
 
-// What the next data-out cycle gives.
+// What the next data-out cycle gives. `Nothing` is no None around the others: it is one of the seven numbers that a host's record
+// has for an output.
 #[derive(Clone, Copy)]
 pub enum Output {
     Nothing,
@@ -219,6 +220,8 @@ pub struct Target {
     pub decoder: Decoder,
 }
 
+// An event as a record. The kind is a number, and no `events::Kind`, since any number may come: rule 12 answers for those that
+// name none.
 #[derive(Clone, Copy)]
 pub struct Event {
     pub kind: u8,
@@ -244,12 +247,6 @@ pub enum Refusal {
 }
 
 #[derive(Clone, Copy)]
-pub enum Verdict {
-    Accepted,
-    Refused(Refusal),
-}
-
-#[derive(Clone, Copy)]
 pub enum Reply {
     Accepted,
     Byte(u8),
@@ -264,7 +261,8 @@ pub struct Findings {
     pub blank: bool,
 }
 
-// What an accepted event does to the lent buffers.
+// What an accepted event does to the lent buffers. `Nothing` is a case like the others: each rule over work has a line for it, and an
+// Option around the rest would put `Some` into every other line.
 #[derive(Clone, Copy)]
 pub enum Work {
     Nothing,

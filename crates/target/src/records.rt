@@ -23,7 +23,7 @@ pub fn lun_begun(old: Lun, fail: bool, opens: bool, closes: bool, blank: u16) ->
     Lun {
         working: true,
         fail,
-        copyback: opens | (old.copyback & !closes),
+        copyback: opens || (old.copyback && !closes),
         blank,
     }
 }
@@ -48,11 +48,11 @@ pub fn lun_finished(old: Lun) -> Lun
     }
 }
 
-// The record of a LUN that does not exist, as power-on makes it.
+// The record of a LUN that does not exist, as power-on makes it: mark by mark, as the definition has it.
 pub fn is_unused(x: Lun) -> bool
     ensures { result ≡ is_unused x }
 {
-    !x.working & !x.fail & !x.copyback & (x.blank == 0)
+    !x.working && !x.fail && !x.copyback && x.blank == 0
 }
 
 // The LUN's record; one that does not exist is ready.
@@ -65,57 +65,54 @@ pub fn lun_at(luns: Luns, l: usize) -> Lun
 pub fn works(luns: Luns, l: usize) -> bool
     ensures { result ≡ works luns l }
 {
-    let x = lun_at(luns, l);
-    x.working
+    lun_at(luns, l).working
 }
 
 // The LUN's FAIL.
 pub fn failed(luns: Luns, l: usize) -> bool
     ensures { result ≡ failed luns l }
 {
-    let x = lun_at(luns, l);
-    x.fail
+    lun_at(luns, l).fail
 }
 
 // How many blocks of the LUN are blank.
 pub fn blank_at(luns: Luns, l: usize) -> u16
     ensures { result ≡ blank_at luns l }
 {
-    let x = lun_at(luns, l);
-    x.blank
+    lun_at(luns, l).blank
 }
 
 // Every LUN made ready; the numbers of blank blocks stay.
 pub fn all_readied(luns: Luns) -> Luns
     ensures { result ≡ all_readied luns }
 {
-    let a = lun_ready(blank_at(luns, 0));
-    let b = lun_ready(blank_at(luns, 1));
-    let c = lun_ready(blank_at(luns, 2));
-    let d = lun_ready(blank_at(luns, 3));
-    [a, b, c, d]
+    [
+        lun_ready(blank_at(luns, 0)),
+        lun_ready(blank_at(luns, 1)),
+        lun_ready(blank_at(luns, 2)),
+        lun_ready(blank_at(luns, 3)),
+    ]
 }
 
 // A copyback is open on the LUN.
 pub fn copyback_at(luns: Luns, l: usize) -> bool
     ensures { result ≡ copyback_at luns l }
 {
-    let x = lun_at(luns, l);
-    x.copyback
+    lun_at(luns, l).copyback
 }
 
 pub fn any_works(luns: Luns) -> bool
     ensures { result ≡ any_works luns }
 {
-    works(luns, 0) | works(luns, 1) | works(luns, 2) | works(luns, 3)
+    works(luns, 0) || works(luns, 1) || works(luns, 2) || works(luns, 3)
 }
 
 // A LUN other than `l` works.
 pub fn others_work(luns: Luns, l: usize) -> bool
     ensures { result ≡ others_work luns l }
 {
-    (!(l == 0) & works(luns, 0))
-        | (!(l == 1) & works(luns, 1))
-        | (!(l == 2) & works(luns, 2))
-        | (!(l == 3) & works(luns, 3))
+    (l != 0 && works(luns, 0))
+        || (l != 1 && works(luns, 1))
+        || (l != 2 && works(luns, 2))
+        || (l != 3 && works(luns, 3))
 }

@@ -3,9 +3,9 @@ ghost use Rattle.std.specs.Prelude.{◌≡◌, true};
 ghost use Rattle.target.specs.Sizes.{page_size, column_end, within, in_limits, sized};
 
 use crate::Geometry;
-use crate::picks::pick_number;
 
 // The page size P.
+#[tactic(auto, unfolding(crate::specs::Sizes::page_size))]
 pub fn page_size(g: Geometry) -> usize
     ensures { result ≡ page_size g }
 {
@@ -16,27 +16,29 @@ pub fn page_size(g: Geometry) -> usize
 pub fn column_end(g: Geometry, page: bool) -> usize
     ensures { result ≡ column_end g page }
 {
-    pick_number(page, 768, page_size(g))
+    if page { 768 } else { page_size(g) }
 }
 
 pub fn within(low: usize, x: usize, high: usize) -> bool
     ensures { result ≡ within low x high }
 {
-    (low <= x) & (x <= high)
+    low <= x && x <= high
 }
 
+#[tactic(auto, unfolding(crate::specs::Sizes::in_limits))]
 pub fn in_limits(g: Geometry) -> bool
     ensures { result ≡ in_limits g }
 {
     within(16, g.bytes as usize, 16384)
-        & (g.spare <= 2048)
-        & within(1, g.pages, 256)
-        & within(1, g.blocks, 4096)
-        & within(1, g.luns, 4)
-        & within(1, g.programs, 8)
+        && g.spare <= 2048
+        && within(1, g.pages, 256)
+        && within(1, g.blocks, 4096)
+        && within(1, g.luns, 4)
+        && within(1, g.programs, 8)
 }
 
-// The limits keep the products within 64 bits.
+// The limits keep the products within 64 bits; they are a `requires`, and docs/STATEMENTS.md names it.
+#[tactic(auto, unfolding(crate::specs::Sizes::sized))]
 pub fn sized(g: Geometry, array: usize, registers: usize, counts: usize, flags: usize) -> bool
     requires { in_limits g ≡ true }
     ensures { result ≡ sized g array registers counts flags }
@@ -46,5 +48,5 @@ pub fn sized(g: Geometry, array: usize, registers: usize, counts: usize, flags: 
     let p = page_size(g);
     let bytes = pages * p;
     let registered = g.luns * p;
-    (array == bytes) & (registers == registered) & (counts == pages) & (flags == blocks)
+    array == bytes && registers == registered && counts == pages && flags == blocks
 }

@@ -1,122 +1,75 @@
-// The generator of judge/generate.c, run over the proved target. It makes the same traces by the same random numbers, and writes
-// the same lines; the file `stdout` has those of the plain C model. SEED and COUNT may be given, and before them
-// -t PART KIND: then only that line, with what happens on the way.
+// The generator of judge/generate.c, run over the proved target. It makes the same traces by the same random numbers,
+// and writes the same lines; the file `stdout` has those of the plain C model. SEED and COUNT may be given, and before
+// them -t PART KIND: then only that line, with what happens on the way.
 #![tactic(auto)]
 
 use std::env::Env;
-use test_judge_lines::cases::run_power_line;
+use std::ops::Range;
+use test_judge_lines::cases::{PowerKind, run_power_line};
 use test_judge_lines::lines::run_line;
-use test_judge_parts::place;
+use test_judge_parts::knobs::TraceKind;
 use test_judge_parts::show::{print_heading, print_line, print_totals};
-use test_judge_parts::state::{Array, Bytes, Fixed, Registers, State, keep, number};
-use test_kit::numbers::{add, get, times};
-use test_kit::random::{mixed_1, mixed_2};
+use test_judge_parts::state::State;
+use test_judge_parts::tally::Tally;
+use test_judge_runs::Bench;
+use test_kit::numbers::{add, sub, times, wide};
 
 // The decimal number that a text begins with.
 fn value(s: &[u8]) -> usize {
-    let mut n: usize = 0;
-    let mut i: usize = 0;
-    while i < s.len() {
-        let b = get(s, i);
-        if (b < 48) | (57 < b) {
-            return n;
-        }
-        n = add(times(n, 10), b % 48);
-        i += 1;
-    }
-    n
+    s.iter()
+        .take_while(|b| b.is_ascii_digit())
+        .fold(0, |n, b| add(times(n, 10), sub(wide(*b), 48)))
 }
 
 // Argument number 'i', or 'other' where there is none.
 fn argument(rt: HostRuntime, i: usize, other: usize) -> usize {
     let mut text = [0u8; 32];
     match rt.arg(i, &mut text) {
-        Ok(0) => other,
+        Ok(0) | Err(_) => other,
         Ok(n) => value(&text[..n]),
-        Err(_) => other,
     }
 }
 
 fn is_shown(rt: HostRuntime) -> bool {
     let mut text = [0u8; 32];
     match rt.arg(1, &mut text) {
-        Ok(n) => (n == 2) & (text[0] == 45) & (text[1] == 116),
+        Ok(n) => &text[..n] == b"-t".as_slice(),
         Err(_) => false,
     }
 }
 
-fn add_counts(total: &mut State, g: &State) {
-    let mut i: usize = 48;
-    while i < 80 {
-        keep(total, i, add(number(total, i), number(g, i)));
-        i += 1;
-    }
-}
-
-fn add_up(total: &mut State, g: &State) {
-    total[place::EVENTS] = add(total[place::EVENTS], g[place::EVENTS]);
-    total[place::SURPRISES] = add(total[place::SURPRISES], g[place::SURPRISES]);
-    total[place::H1] = mixed_1(total[place::H1], g[place::H1]);
-    total[place::H2] = mixed_2(total[place::H2], g[place::H2]);
-    add_counts(total, g);
-}
-
 fn one_line(
     rt: HostRuntime,
-    total: &mut State,
-    shown: usize,
+    total: &mut Tally,
+    shown: bool,
     seed: usize,
     count: usize,
     line: usize,
-    fixed: &mut Fixed,
-    array: &mut Array,
-    registers: &mut Registers,
-    counts: &mut Bytes,
+    bench: &mut Bench,
 ) {
-    let mut g = [0usize; 8272];
-    g[place::SHOW] = shown;
-    if line < 374 {
-        run_line(
-            rt, &mut g, seed, count, line, fixed, array, registers, counts,
-        );
+    let mut g = State::new(shown, seed, line);
+    let part = line / 17;
+    let kind = line % 17;
+    if part < 22 {
+        run_line(rt, &mut g, count, part, TraceKind::ALL[kind], bench);
     } else {
-        run_power_line(
-            rt, &mut g, seed, count, line, fixed, array, registers, counts,
-        );
+        run_power_line(rt, &mut g, count, PowerKind::of(kind), bench);
     }
-    print_line(rt, &g, line / 17, line % 17);
-    add_up(total, &g);
+    print_line(rt, &g.tally, part, kind);
+    total.add(&g.tally);
 }
 
-// The lines from 'first' up to 'end'.
 fn all_lines(
     rt: HostRuntime,
-    shown: usize,
+    shown: bool,
     seed: usize,
     count: usize,
-    first: usize,
-    end: usize,
-) -> State {
-    let mut total = [0usize; 8272];
-    let mut fixed = [0u8; 8452];
-    let mut array = [0u8; 131072];
-    let mut registers = [0u8; 36864];
-    let mut counts = [0u8; 8192];
-    let mut line = first;
-    while line < end {
-        one_line(
-            rt,
-            &mut total,
-            shown,
-            seed,
-            count,
-            line,
-            &mut fixed,
-            &mut array,
-            &mut registers,
-            &mut counts,
-        );
-        line += 1;
+    lines: Range<usize>,
+) -> Tally {
+    let mut total = Tally::new();
+    let mut bench = Bench::new();
+    for line in lines {
+        one_line(rt, &mut total, shown, seed, count, line, &mut bench);
     }
     total
 }
@@ -124,17 +77,14 @@ fn all_lines(
 fn main(rt: HostRuntime) {
     if is_shown(rt) {
         let line = add(times(argument(rt, 2, 0), 17), argument(rt, 3, 0));
-        all_lines(
-            rt,
-            1,
-            argument(rt, 4, 1),
-            argument(rt, 5, 1),
-            line,
-            add(line, 1),
-        );
+        let seed = argument(rt, 4, 1);
+        let count = argument(rt, 5, 1);
+        all_lines(rt, true, seed, count, line..add(line, 1));
     } else {
         print_heading(rt);
-        let total = all_lines(rt, 0, argument(rt, 1, 1), argument(rt, 2, 1), 0, 378);
+        let seed = argument(rt, 1, 1);
+        let count = argument(rt, 2, 1);
+        let total = all_lines(rt, false, seed, count, 0..378);
         print_totals(rt, &total);
     }
 }

@@ -1,191 +1,162 @@
 // The generator's records, bus cycles and addresses.
 #![tactic(auto)]
 
-use test_judge_parts::random::{below, half, sometimes};
-use test_judge_parts::state::{State, number, put_byte};
-use test_judge_parts::{field, knob, place};
-use test_kit::numbers::{add, at_most, power, sub, times};
+use test_judge_parts::state::State;
+use test_kit::numbers::{add, at_most, byte, power, sub};
 
-pub fn put(g: &mut State, kind: usize, value: usize) {
-    let at = g[place::LEN];
-    if at < 8191 {
-        put_byte(g, at, kind);
-        put_byte(g, at + 1, value);
-        g[place::LEN] = at + 2;
+// The kinds of events; a record's first byte may be any other number too.
+#[derive(Clone, Copy, PartialEq, Eq)]
+pub enum Kind {
+    Command,
+    Address,
+    DataIn,
+    DataOut,
+    Finish,
+    Protect,
+}
+
+impl Kind {
+    pub fn number(self) -> u8 {
+        self as u8
     }
+}
+
+pub fn put(g: &mut State, kind: Kind, value: u8) {
+    g.trace.put(kind.number(), value);
 }
 
 pub fn is_busy(g: &State, lun: usize) -> bool {
-    if lun < 64 {
-        (g[place::BUSY] >> lun) % 2 == 1
-    } else {
-        false
-    }
+    g.busy.get(lun) == Some(&true)
 }
 
 pub fn set_busy(g: &mut State, lun: usize) {
-    if !is_busy(g, lun) {
-        g[place::BUSY] = add(g[place::BUSY], power(lun));
+    if let Some(busy) = g.busy.get_mut(lun) {
+        *busy = true;
     }
 }
 
 pub fn put_finish(g: &mut State, lun: usize) {
-    put(g, 4, lun);
-    if (lun < 4) & is_busy(g, lun) {
-        g[place::BUSY] = sub(g[place::BUSY], power(lun));
+    put(g, Kind::Finish, byte(lun));
+    if let Some(busy) = g.busy.get_mut(lun) {
+        *busy = false;
     }
 }
 
 pub fn put_reset(g: &mut State) {
-    put(g, 0, 255);
-    g[place::BUSY] = 0;
-    g[place::SELECTED] = 0;
+    put(g, Kind::Command, 0xff);
+    g.busy = [false; 4];
+    g.selected = 0;
 }
 
 pub fn put_bad(g: &mut State) {
-    let what = below(g, 4);
-    let value = below(g, 254);
+    let what = g.below(4);
+    let value = g.below(254);
     match what {
         0 => {
-            let kind = add(6, below(g, 250));
-            put(g, kind, value)
+            let kind = byte(add(6, g.below(250)));
+            g.trace.put(kind, byte(value));
         }
-        1 => put(g, 3, add(1, value)),
-        2 => put(g, 5, add(2, value)),
+        1 => put(g, Kind::DataOut, byte(add(1, value))),
+        2 => put(g, Kind::Protect, byte(add(2, value))),
         _ => {
-            let lun = at_most(add(g[field::LUNS], value), 255);
-            put(g, 4, lun)
+            let lun = at_most(add(g.part.luns, value), 255);
+            put(g, Kind::Finish, byte(lun));
         }
     }
 }
 
 pub fn pick_lun(g: &mut State) -> usize {
-    let luns = g[field::LUNS];
-    below(g, luns)
-}
-
-fn sprinkle_finish(g: &mut State) {
-    if sometimes(g, knob::SPRINKLE) {
-        let lun = pick_lun(g);
-        put_finish(g, lun);
-    }
-}
-
-fn sprinkle_bad(g: &mut State) {
-    if sometimes(g, knob::BAD) {
-        put_bad(g);
-    }
-}
-
-fn sprinkle_protect(g: &mut State) {
-    if sometimes(g, knob::GUARD) {
-        let level = at_most(below(g, 3), 1);
-        put(g, 5, level);
-    }
-}
-
-fn sprinkle_reset(g: &mut State) {
-    if sometimes(g, knob::RESET) {
-        put_reset(g);
-    }
+    g.below(g.part.luns)
 }
 
 // One bus cycle, and before it what the knobs sprinkle in.
-pub fn cycle(g: &mut State, kind: usize, value: usize) {
-    sprinkle_finish(g);
-    sprinkle_bad(g);
-    sprinkle_protect(g);
-    sprinkle_reset(g);
+pub fn cycle(g: &mut State, kind: Kind, value: u8) {
+    if g.chance(g.knobs.sprinkle) {
+        let lun = pick_lun(g);
+        put_finish(g, lun);
+    }
+    if g.chance(g.knobs.bad) {
+        put_bad(g);
+    }
+    if g.chance(g.knobs.guard) {
+        let level = at_most(g.below(3), 1);
+        put(g, Kind::Protect, byte(level));
+    }
+    if g.chance(g.knobs.reset) {
+        put_reset(g);
+    }
     put(g, kind, value);
 }
 
-pub fn command(g: &mut State, value: usize) {
-    cycle(g, 0, value);
+pub fn command(g: &mut State, value: u8) {
+    cycle(g, Kind::Command, value);
 }
 
-pub fn address(g: &mut State, value: usize) {
-    cycle(g, 1, value);
+pub fn address(g: &mut State, value: u8) {
+    cycle(g, Kind::Address, value);
 }
 
 pub fn take_out(g: &mut State, n: usize) {
-    let mut i: usize = 0;
-    while i < n {
-        cycle(g, 3, 0);
-        i += 1;
-    }
-}
-
-pub fn row_of(g: &State, lun: usize, block: usize, page: usize) -> usize {
-    let low = add(page, times(block, power(g[place::PAGE_BITS])));
-    let bits = add(g[place::PAGE_BITS], g[place::BLOCK_BITS]);
-    add(low, times(lun, power(bits))) % 16777216
-}
-
-fn edge_page(g: &State, what: usize, page: usize) -> usize {
-    match what {
-        0 => sub(g[field::PAGES], 1),
-        1 => g[field::PAGES],
-        2 => sub(power(g[place::PAGE_BITS]), 1),
-        _ => page,
-    }
-}
-
-fn edge_block(g: &State, what: usize, block: usize) -> usize {
-    match what {
-        3 => sub(g[field::BLOCKS], 1),
-        4 => g[field::BLOCKS],
-        5 => sub(power(g[place::BLOCK_BITS]), 1),
-        _ => block,
-    }
-}
-
-fn edge_lun(g: &State, what: usize, more: usize, lun: usize) -> usize {
-    let bits = add(g[place::PAGE_BITS], g[place::BLOCK_BITS]);
-    match what {
-        6 => g[field::LUNS],
-        7 => add(g[field::LUNS], more),
-        8 => add(lun, power(sub(add(20, more), bits))),
-        9 => add(lun, power(add(more, 1))),
-        _ => lun,
+    for _ in 0..n {
+        cycle(g, Kind::DataOut, 0);
     }
 }
 
 fn edge_row(g: &mut State, lun: usize, block: usize, page: usize) -> usize {
-    let what = below(g, 10);
-    let more = below(g, 4);
-    let page = edge_page(g, what, page);
-    let block = edge_block(g, what, block);
-    let lun = edge_lun(g, what, more, lun);
-    row_of(g, lun, block, page)
+    let what = g.below(10);
+    let more = g.below(4);
+    let part = &g.part;
+    let bits = add(part.page_bits(), part.block_bits());
+    match what {
+        0 => part.row_of(lun, block, sub(part.pages, 1)),
+        1 => part.row_of(lun, block, part.pages),
+        2 => part.row_of(lun, block, sub(power(part.page_bits()), 1)),
+        3 => part.row_of(lun, sub(part.blocks, 1), page),
+        4 => part.row_of(lun, part.blocks, page),
+        5 => part.row_of(lun, sub(power(part.block_bits()), 1), page),
+        6 => part.row_of(part.luns, block, page),
+        7 => part.row_of(add(part.luns, more), block, page),
+        8 => part.row_of(add(lun, power(sub(add(20, more), bits))), block, page),
+        _ => part.row_of(add(lun, power(add(more, 1))), block, page),
+    }
 }
 
 // How many of n there are to pick from.
-pub fn spot(knob: usize, n: usize) -> usize {
-    if knob == 1 { at_most(n, 2) } else { n }
+pub fn spot(g: &State, n: usize) -> usize {
+    if g.knobs.spot { at_most(n, 2) } else { n }
 }
 
 pub fn pick_row(g: &mut State, lun: usize) -> usize {
-    let pages = spot(g[knob::SPOT], g[field::PAGES]);
-    let blocks = spot(g[knob::SPOT], g[field::BLOCKS]);
-    let page = below(g, pages);
-    let block = below(g, blocks);
-    if sometimes(g, knob::EDGE) {
+    let pages = spot(g, g.part.pages);
+    let blocks = spot(g, g.part.blocks);
+    let page = g.below(pages);
+    let block = g.below(blocks);
+    if g.chance(g.knobs.edge) {
         edge_row(g, lun, block, page)
     } else {
-        row_of(g, lun, block, page)
+        g.part.row_of(lun, block, page)
+    }
+}
+
+// The low bytes of a number as addresses, the lowest first.
+fn put_addresses(g: &mut State, n: usize, cycles: usize) {
+    for b in n.to_le_bytes().iter().take(cycles) {
+        address(g, *b);
     }
 }
 
 pub fn put_row(g: &mut State, lun: usize, row: usize) {
-    address(g, row % 256);
-    address(g, row / 256 % 256);
-    address(g, row / 65536);
-    g[place::SELECTED] = lun;
+    put_addresses(g, row, 3);
+    g.selected = lun;
+}
+
+pub fn put_column(g: &mut State, column: usize) {
+    put_addresses(g, column, 2);
 }
 
 fn edge_column(g: &mut State) -> usize {
-    let what = below(g, 7);
-    let size = g[place::SIZE];
+    let what = g.below(7);
+    let size = g.part.size();
     match what {
         0 => size,
         1 => add(size, 1),
@@ -198,57 +169,48 @@ fn edge_column(g: &mut State) -> usize {
 }
 
 pub fn pick_column(g: &mut State) -> usize {
-    let size = g[place::SIZE];
-    let what = below(g, 4);
-    if sometimes(g, knob::EDGE) {
+    let size = g.part.size();
+    let what = g.below(4);
+    if g.chance(g.knobs.edge) {
         return edge_column(g);
     }
     match what {
         0 => 0,
-        1 => sub(sub(size, 1), below(g, 12)),
-        _ => below(g, size),
+        1 => sub(sub(size, 1), g.below(12)),
+        _ => g.below(size),
     }
-}
-
-pub fn put_column(g: &mut State, column: usize) {
-    address(g, column % 256);
-    address(g, column / 256);
 }
 
 // How much data from a column on: near the end it goes to the end, or past it.
 pub fn pick_length(g: &mut State, column: usize) -> usize {
-    let size = g[place::SIZE];
-    let left = if column < size { size - column } else { 0 };
-    let some = below(g, 8);
-    let past = sometimes(g, knob::PAST);
-    if past & (left <= 600) {
-        return add(left, 1 + some % 2);
+    let left = g.part.size().saturating_sub(column);
+    let some = g.below(8);
+    let past = g.chance(g.knobs.past);
+    if past && left <= 600 {
+        add(left, 1 + some % 2)
+    } else if left <= 16 {
+        left
+    } else {
+        some
     }
-    if left <= 16 {
-        return left;
-    }
-    some
 }
 
 pub fn make_ready(g: &mut State, lun: usize) {
-    if (g[knob::CARE] == 1) & is_busy(g, lun) {
+    if g.knobs.care && is_busy(g, lun) {
         put_finish(g, lun);
     }
 }
 
 pub fn make_all_ready(g: &mut State) {
-    let luns = number(g, field::LUNS);
-    let mut lun: usize = 0;
-    while lun < luns {
+    for lun in 0..g.part.luns {
         make_ready(g, lun);
-        lun += 1;
     }
 }
 
 // After 30h, 35h, 10h, D0h: half of the time the finish follows.
 pub fn begin_work(g: &mut State, lun: usize) {
     set_busy(g, lun);
-    if half(g) {
+    if g.half() {
         make_ready(g, lun);
     }
 }

@@ -1,11 +1,12 @@
-// The generator of judge/generate.c in Rattle, its first part: the state that it keeps, random numbers, what it writes, and parts.
+// The generator of judge/generate.c in Rattle, its first part: the state that it keeps, random numbers, what it
+// writes, and parts.
 #![tactic(auto)]
 
-pub mod field;
-pub mod knob;
+pub mod buffers;
+pub mod knobs;
 pub mod parts;
-pub mod place;
-pub mod random;
 pub mod show;
 pub mod state;
-pub mod tables;
+mod tables;
+pub mod tally;
+pub mod trace;

@@ -1,228 +1,209 @@
-// Parts: their fields, lengths, parameter pages and first buffers.
-use crate::random::{below, chance, fill_random, fill_with};
-use crate::state::{Array, Bytes, Fixed, Registers, State, number, store, store_flag};
-use crate::tables::{KnobRow, knob_row, part_row};
-use crate::{field, knob, place};
-use test_kit::numbers::{add, at_most, bits_for, get, set, times};
+// Parts: their fields, parameter pages and first buffers.
+use crate::buffers::{Buffers, Lengths};
+use crate::state::State;
+use crate::tables::{PartRow, part_row};
+use test_kit::numbers::{add, bits_for, byte, count, power, times};
 
-// Lengths from the fields; never past the memory there is.
-pub fn measure(g: &mut State) {
-    let blocks = times(g[field::LUNS], g[field::BLOCKS]);
-    let pages = times(blocks, g[field::PAGES]);
-    let size = add(g[field::DATA], g[field::SPARE]);
-    let luns = g[field::LUNS];
-    g[place::SIZE] = size;
-    g[place::PAGE_BITS] = bits_for(g[field::PAGES]);
-    g[place::BLOCK_BITS] = bits_for(g[field::BLOCKS]);
-    g[place::PAGE_LEN] = 256;
-    lend(g, blocks, pages, luns, size);
+// What the array holds at first.
+#[derive(Clone, Copy, PartialEq, Eq)]
+pub enum Fill {
+    Erased,
+    Noise,
 }
 
-// The lengths that these numbers of blocks, pages and LUNs and this page size give.
-pub fn lend(g: &mut State, blocks: usize, pages: usize, luns: usize, size: usize) {
-    g[place::ARRAY_LEN] = at_most(times(pages, size), 131072);
-    g[place::REGISTERS_LEN] = at_most(times(luns, size), 36864);
-    g[place::COUNTS_LEN] = at_most(pages, 8192);
-    g[place::FLAGS_LEN] = at_most(blocks, 8192);
+// The counts at first.
+#[derive(Clone, Copy, PartialEq, Eq)]
+pub enum Counts {
+    Zero,
+    Drawn,
+    Full,
 }
 
-fn load_fields(g: &mut State, part: usize) {
-    let p = part_row(part);
-    g[field::DATA] = p.0;
-    g[field::SPARE] = p.1;
-    g[field::PAGES] = p.2;
-    g[field::BLOCKS] = p.3;
-    g[field::LUNS] = p.4;
-    g[field::PROGRAMS] = p.5;
-    g[field::OPTIONS] = p.6;
-    g[field::FILL] = p.7;
-    g[field::COUNTS] = p.8;
-    g[field::FLAGS] = p.9;
+// How many blocks are bad at first.
+#[derive(Clone, Copy, PartialEq, Eq)]
+pub enum Flags {
+    Good,
+    Quarter,
+    TwoThirds,
 }
 
-pub fn load_part(g: &mut State, part: usize) {
-    load_fields(g, part);
-    g[field::CYCLES] = 35;
-    g[field::WIDE] = 0;
-    g[field::MANY] = 1;
-    if g[field::LUNS] == 1 {
-        g[field::MANY] = 0;
+#[derive(Clone, Copy)]
+pub struct Part {
+    pub data: usize,
+    pub spare: usize,
+    pub pages: usize,
+    pub blocks: usize,
+    pub luns: usize,
+    pub programs: usize,
+    // 1: 78h, 2: 06h, 4: EEh and EFh, 8: 40h, 16: copyback, 32: any order
+    pub options: usize,
+    pub fill: Fill,
+    pub counts: Counts,
+    pub flags: Flags,
+    // byte 101
+    pub cycles: usize,
+    // feature bits 0 and 1
+    pub wide: bool,
+    pub many: bool,
+}
+
+impl Part {
+    // A part of the table.
+    pub fn of(part: usize) -> Part {
+        let PartRow(data, spare, pages, blocks, luns, programs, options, fill, counts, flags) =
+            part_row(part);
+        Part {
+            data,
+            spare,
+            pages,
+            blocks,
+            luns,
+            programs,
+            options,
+            fill,
+            counts,
+            flags,
+            cycles: 35,
+            wide: false,
+            many: luns != 1,
+        }
     }
-    measure(g);
+
+    // The page size P.
+    pub fn size(&self) -> usize {
+        add(self.data, self.spare)
+    }
+
+    pub fn page_bits(&self) -> usize {
+        bits_for(self.pages)
+    }
+
+    pub fn block_bits(&self) -> usize {
+        bits_for(self.blocks)
+    }
+
+    pub fn lengths(&self) -> Lengths {
+        Lengths::of(self.luns, self.blocks, self.pages, self.size())
+    }
+
+    pub fn row_of(&self, lun: usize, block: usize, page: usize) -> usize {
+        let low = add(page, times(block, power(self.page_bits())));
+        let bits = add(self.page_bits(), self.block_bits());
+        add(low, times(lun, power(bits))) % 16777216
+    }
+
+    // Whether it has an option, as a bit.
+    fn option(&self, which: usize) -> usize {
+        usize::from(self.options & which != 0)
+    }
 }
 
-fn load_shape(g: &mut State, k: KnobRow) {
-    g[knob::TRACES] = k.0;
-    g[knob::RECORDS] = k.1;
-    g[knob::STEP] = k.2;
-    g[knob::CARE] = k.3;
-    g[knob::SPRINKLE] = k.4;
-    g[knob::EDGE] = k.5;
-    g[knob::SPOT] = k.6;
-    g[knob::PAST] = k.7;
+// The low bytes of a number, as many as there is room for.
+fn put(room: &mut [u8], n: usize) {
+    for (to, b) in room.iter_mut().zip(n.to_le_bytes()) {
+        *to = b;
+    }
 }
 
-fn load_chances(g: &mut State, k: KnobRow) {
-    g[knob::LONG] = k.8;
-    g[knob::BAD] = k.9;
-    g[knob::GUARD] = k.10;
-    g[knob::RESET] = k.11;
-    g[knob::SHORT] = k.12;
-    g[knob::ODD] = k.13;
-    g[knob::WRONG] = k.14;
-    g[knob::SPOIL] = k.15;
+fn crc_bit(c: u16) -> u16 {
+    let d = c << 1;
+    if c >> 15 == 1 { d ^ 0x8005 } else { d }
 }
 
-pub fn load_knobs(g: &mut State, kind: usize) {
-    let k = knob_row(kind);
-    load_shape(g, k);
-    load_chances(g, k);
-}
-
-fn put_two(page: &mut [u8], at: usize, n: usize) {
-    set(page, at, n);
-    set(page, add(at, 1), n / 256);
-}
-
-fn put_four(page: &mut [u8], at: usize, n: usize) {
-    put_two(page, at, n);
-    put_two(page, add(at, 2), n / 65536);
-}
-
-fn crc_bit(c: usize) -> usize {
-    let d = (c % 32768) * 2;
-    if c / 32768 % 2 == 1 { d ^ 32773 } else { d }
-}
-
-fn crc_four(c: usize) -> usize {
-    crc_bit(crc_bit(crc_bit(crc_bit(c))))
-}
-
-fn crc(page: &[u8]) -> usize {
-    let mut c: usize = 20302;
-    let mut i: usize = 0;
-    while i < 254 {
-        c = crc_four(crc_four(c ^ times(get(page, i), 256)));
-        i += 1;
+fn crc(bytes: &[u8]) -> u16 {
+    let mut c = 0x4f4e;
+    for b in bytes {
+        c ^= u16::from(*b) << 8;
+        for _ in 0..8 {
+            c = crc_bit(c);
+        }
     }
     c
 }
 
-pub fn mend_crc(page: &mut [u8]) {
-    let c = crc(page);
-    put_two(page, 254, c);
+pub fn mend_crc(page: &mut [u8; 260]) {
+    let c = crc(&page[..254]);
+    page[254..256].copy_from_slice(&c.to_le_bytes());
 }
 
 // Bits that the model does not look at are random, like all other bytes.
 fn feature_bits(g: &mut State) -> usize {
-    let options = g[field::OPTIONS];
-    let low = below(g, 32);
-    let high = below(g, 128);
-    g[field::WIDE] % 2
-        + g[field::MANY] % 2 * 2
-        + options / 32 % 2 * 4
-        + low % 32 * 8
-        + options / 8 % 2 * 256
-        + high % 128 * 512
+    let low = g.below(32);
+    let high = g.below(128);
+    let part = &g.part;
+    usize::from(part.wide)
+        | usize::from(part.many) << 1
+        | part.option(32) << 2
+        | low << 3
+        | part.option(8) << 8
+        | high << 9
 }
 
 fn optional_bits(g: &mut State) -> usize {
-    let options = g[field::OPTIONS];
-    let low = below(g, 4);
-    let middle = below(g, 2);
-    let high = below(g, 512);
-    low % 4
-        + options / 4 % 2 * 4
-        + options % 2 * 8
-        + options / 16 % 2 * 16
-        + middle % 2 * 32
-        + options / 2 % 2 * 64
-        + high % 512 * 128
+    let low = g.below(4);
+    let middle = g.below(2);
+    let high = g.below(512);
+    let part = &g.part;
+    low | part.option(4) << 2
+        | part.option(1) << 3
+        | part.option(16) << 4
+        | middle << 5
+        | part.option(2) << 6
+        | high << 7
 }
 
-fn put_signature(page: &mut Fixed) {
-    set(page, 0, 0x4f);
-    set(page, 1, 0x4e);
-    set(page, 2, 0x46);
-    set(page, 3, 0x49);
+fn put_fields(part: &Part, page: &mut [u8; 260]) {
+    put(&mut page[80..84], part.data);
+    put(&mut page[84..86], part.spare);
+    put(&mut page[92..96], part.pages);
+    put(&mut page[96..100], part.blocks);
+    page[100] = byte(part.luns);
+    page[101] = byte(part.cycles);
+    page[110] = byte(part.programs);
 }
 
-fn put_bits(g: &mut State, page: &mut Fixed) {
-    let features = feature_bits(g);
-    let optional = optional_bits(g);
-    put_two(page, 6, features);
-    put_two(page, 8, optional);
-}
-
-fn put_sizes(g: &State, page: &mut Fixed) {
-    put_four(page, 80, g[field::DATA]);
-    put_two(page, 84, g[field::SPARE]);
-    put_four(page, 92, g[field::PAGES]);
-    put_four(page, 96, g[field::BLOCKS]);
-    set(page, 100, g[field::LUNS]);
-    set(page, 101, g[field::CYCLES]);
-    set(page, 110, g[field::PROGRAMS]);
-}
-
-pub fn make_page(g: &mut State, page: &mut Fixed) {
-    fill_random(g, page, 260);
-    put_signature(page);
-    put_bits(g, page);
-    put_sizes(g, page);
+pub fn make_page(g: &mut State, page: &mut [u8; 260]) {
+    g.fill_random(page);
+    page[..4].copy_from_slice(b"ONFI");
+    put(&mut page[6..8], feature_bits(g));
+    put(&mut page[8..10], optional_bits(g));
+    put_fields(&g.part, page);
     mend_crc(page);
-    let device = below(g, 256);
-    g[place::DEVICE] = device;
+    g.device = g.any_byte();
 }
 
-fn first_count(g: &mut State) -> usize {
-    let programs = g[field::PROGRAMS];
-    match g[field::COUNTS] {
-        0 => 0,
-        1 => below(g, add(programs, 1)),
-        _ => programs,
-    }
+fn first_count(g: &mut State) -> u8 {
+    let programs = g.part.programs;
+    byte(match g.part.counts {
+        Counts::Zero => 0,
+        Counts::Drawn => g.below(add(programs, 1)),
+        Counts::Full => programs,
+    })
 }
 
-fn first_flag(g: &mut State) -> usize {
-    match g[field::FLAGS] {
-        0 => 0,
-        1 => { if chance(g, 4) { 1 } else { 0 } }
-        _ => at_most(below(g, 3), 1),
-    }
+fn first_flag(g: &mut State) -> u8 {
+    u8::from(match g.part.flags {
+        Flags::Good => false,
+        Flags::Quarter => g.chance(4),
+        Flags::TwoThirds => g.below(3) != 0,
+    })
 }
 
-fn fill_counts(g: &mut State, counts: &mut Bytes) {
-    let n = number(g, place::COUNTS_LEN);
-    let mut i: usize = 0;
-    while i < n {
-        store(counts, i, first_count(g));
-        i += 1;
+pub fn fill_buffers(g: &mut State, b: &mut Buffers) {
+    let n = count(g.lengths.array, &b.array);
+    if g.part.fill == Fill::Noise {
+        g.fill_random(&mut b.array[..n]);
+    } else {
+        b.array[..n].fill(0xff);
     }
-}
-
-fn fill_flags(g: &mut State, fixed: &mut Fixed) {
-    let n = number(g, place::FLAGS_LEN);
-    let mut i: usize = 0;
-    while i < n {
-        store_flag(fixed, i, first_flag(g));
-        i += 1;
+    let n = count(g.lengths.registers, &b.registers);
+    g.fill_random(&mut b.registers[..n]);
+    let n = count(g.lengths.counts, &b.counts);
+    for c in &mut b.counts[..n] {
+        *c = first_count(g);
     }
-}
-
-pub fn fill_buffers(
-    g: &mut State,
-    fixed: &mut Fixed,
-    array: &mut Array,
-    registers: &mut Registers,
-    counts: &mut Bytes,
-) {
-    let n = g[place::ARRAY_LEN];
-    fill_with(array, n, 255);
-    if g[field::FILL] == 1 {
-        fill_random(g, array, n);
+    let n = count(g.lengths.flags, &b.flags);
+    for f in &mut b.flags[..n] {
+        *f = first_flag(g);
     }
-    let n = g[place::REGISTERS_LEN];
-    fill_random(g, registers, n);
-    fill_counts(g, counts);
-    fill_flags(g, fixed);
 }

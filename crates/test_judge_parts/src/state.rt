@@ -1,71 +1,99 @@
-// The generator's numbers and buffers, and reading and writing them at any place.
-use crate::place;
-use test_kit::numbers::{add, byte, wide};
+// The generator's state, and random numbers.
+ghost use Rattle.std.specs.Prelude.{◌<◌};
 
-// The generator's numbers, by the places of `place`, `field` and `knob`, and behind them the bytes of the trace that it
-// makes: one buffer for both, since each `&mut` that a call is given makes its proof longer.
-pub type State = [usize; 8272];
+use crate::buffers::Lengths;
+use crate::knobs::{Knobs, TraceKind};
+use crate::parts::Part;
+use crate::tally::Tally;
+use crate::trace::Trace;
+use test_kit::numbers::{add, byte};
+use test_kit::random::{SEED, drawn};
 
-// A trace, replies or counts.
-pub type Bytes = [u8; 8192];
-
-// What no event changes: the parameter page, and from place 260 on the flags.
-pub type Fixed = [u8; 8452];
-
-pub type Array = [u8; 131072];
-
-pub type Registers = [u8; 36864];
-
-// A byte at any place: 0 past the end, where nothing is stored.
-pub fn fetch(s: &Bytes, i: usize) -> usize {
-    if i < 8192 { wide(s[i]) } else { 0 }
+#[derive(Drop)]
+pub struct State {
+    // the last random number
+    random: usize,
+    pub tally: Tally,
+    // the trace so far
+    pub trace: Trace,
+    // its number in its line
+    pub number: usize,
+    // whether what happens is printed
+    pub shown: bool,
+    // the LUNs that the generator takes to be working
+    pub busy: [bool; 4],
+    // the LUN that it takes to be selected
+    pub selected: usize,
+    pub part: Part,
+    pub device: u8,
+    // lengths to lend
+    pub lengths: Lengths,
+    pub knobs: Knobs,
 }
 
-pub fn store(s: &mut Bytes, i: usize, n: usize) {
-    if i < 8192 {
-        s[i] = byte(n);
+impl State {
+    // A line's state before its part and knobs are loaded.
+    pub fn new(shown: bool, seed: usize, line: usize) -> State {
+        let part = Part::of(0);
+        let mut g = State {
+            random: SEED ^ (seed % 4294967296) ^ (add(line, 1) << 40),
+            tally: Tally::new(),
+            trace: Trace::new(),
+            number: 0,
+            shown,
+            busy: [false; 4],
+            selected: 0,
+            part,
+            device: 0,
+            lengths: part.lengths(),
+            knobs: Knobs::of(TraceKind::Whole),
+        };
+        for _ in 0..16 {
+            g.below(2);
+        }
+        g
     }
-}
 
-// A flag.
-pub fn store_flag(fixed: &mut Fixed, i: usize, n: usize) {
-    if i < 8192 {
-        fixed[260 + i] = byte(n);
+    pub fn load_part(&mut self, part: usize) {
+        self.part = Part::of(part);
+        self.measure();
     }
-}
 
-// The same of the trace that is made.
-pub fn byte_at(g: &State, i: usize) -> usize {
-    if i < 8192 { g[place::NUMBERS + i] } else { 0 }
-}
-
-pub fn put_byte(g: &mut State, i: usize, n: usize) {
-    if i < 8192 {
-        g[place::NUMBERS + i] = n % 256;
+    pub fn load_knobs(&mut self, kind: TraceKind) {
+        self.knobs = Knobs::of(kind);
     }
-}
 
-// The trace as bytes.
-pub fn give_trace(g: &State, to: &mut Bytes) {
-    let mut i: usize = 0;
-    while i < 8192 {
-        to[i] = byte(byte_at(g, i));
-        i += 1;
+    // Lends what the part asks.
+    pub fn measure(&mut self) {
+        self.lengths = self.part.lengths();
     }
-}
 
-// The same of the numbers.
-pub fn number(g: &State, i: usize) -> usize {
-    if i < place::NUMBERS { g[i] } else { 0 }
-}
-
-pub fn keep(g: &mut State, i: usize, n: usize) {
-    if i < place::NUMBERS {
-        g[i] = n;
+    // The next number, below `n`.
+    pub fn below(&mut self, n: usize) -> usize
+        ensures { 0 < n → result < n }
+    {
+        self.random = drawn(self.random);
+        if n == 0 { 0 } else { (self.random >> 20) % n }
     }
-}
 
-pub fn one_more(g: &mut State, i: usize) {
-    let n = add(number(g, i), 1);
-    keep(g, i, n);
+    // Any byte.
+    pub fn any_byte(&mut self) -> u8 {
+        byte(self.below(256))
+    }
+
+    // One in `n`.
+    pub fn chance(&mut self, n: usize) -> bool {
+        n != 0 && self.below(n) == 0
+    }
+
+    // One in two.
+    pub fn half(&mut self) -> bool {
+        self.below(2) == 1
+    }
+
+    pub fn fill_random(&mut self, to: &mut [u8]) {
+        for b in to {
+            *b = self.any_byte();
+        }
+    }
 }

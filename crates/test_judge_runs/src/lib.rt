@@ -1,311 +1,94 @@
 // The generator's runs: the proved model, lent what the state says, and what it answers.
 #![tactic(auto)]
 
-use power::{Powered, power_number};
+use power::unpowered;
 use slices::part_of;
-use step::Stepped;
-use target::records::{blank_at, copyback_at};
 use target::{Event, Output, Target, reply_first, reply_second};
 use test_judge_cycles::pick_lun;
-use test_judge_parts::parts::measure;
-use test_judge_parts::random::{absorb, absorb_bytes, absorb_front, below, sometimes};
+use test_judge_parts::buffers::Buffers;
 use test_judge_parts::show::show;
-use test_judge_parts::state::{Array, Bytes, Fixed, Registers, State, fetch, give_trace, one_more};
-use test_judge_parts::{field, knob, place};
-use test_judge_spoils::{follow_geometry, is_legal, pick_spoil, spoil_length, spoiled, with_blank};
-use test_kit::numbers::{add, at_most, byte, count, get, sub, times};
+use test_judge_parts::state::State;
+use test_judge_parts::trace::ROOM;
+use test_judge_spoils::{follow_geometry, is_legal, pick_spoil, set_blank, spoil, spoil_length};
+use test_kit::numbers::{add, byte, count, sub, times, wide};
 use test_lent::{Lengths, lent_power, lent_run, lent_step};
-use trace::{Ran, run_number};
-use unread::{Source, unread_part};
+use trace::run_number;
+use unread::{Source, rest, unread_part};
 
-// What is lent, as the state says.
+// The model on the bench: its record, and the buffers that it is lent.
+#[derive(Drop)]
+pub struct Bench {
+    pub target: Target,
+    pub buffers: Buffers,
+}
+
+// Some bytes of a trace, from byte `at` of it on.
+#[derive(Clone, Copy)]
+struct Batch<'a> {
+    bytes: &'a [u8],
+    at: usize,
+}
+
+impl Batch<'_> {
+    fn of(trace: &[u8], at: usize, n: usize) -> Batch<'_> {
+        Batch {
+            bytes: part_of(trace, at, n),
+            at,
+        }
+    }
+
+    // How many bytes of replies it asks.
+    fn need(&self) -> usize {
+        times(self.bytes.len().div_ceil(2), 2)
+    }
+}
+
+// What is lent, as the state says. The generator has lengths of its own, since its lower crates stand on no model.
 fn lengths(g: &State) -> Lengths {
     Lengths {
-        page: g[place::PAGE_LEN],
-        array: g[place::ARRAY_LEN],
-        registers: g[place::REGISTERS_LEN],
-        counts: g[place::COUNTS_LEN],
-        flags: g[place::FLAGS_LEN],
+        page: g.lengths.page,
+        array: g.lengths.array,
+        registers: g.lengths.registers,
+        counts: g.lengths.counts,
+        flags: g.lengths.flags,
     }
 }
 
-// The flags of a part: they lie behind its page.
-fn flags_of(fixed: &[u8]) -> &[u8] {
-    part_of(fixed, 260, 8192)
-}
-
-fn tally(g: &mut State, kind: usize, reply: usize) {
-    one_more(g, place::EVENTS);
-    if (reply / 256 == 2) & (reply % 256 < 26) {
-        one_more(g, add(place::REFUSED, reply % 256));
-    }
-    if (reply < 512) & (kind < 6) {
-        one_more(g, add(place::ACCEPTED, kind));
+// The first two bytes: past the end there is 0, as behind an odd byte.
+fn first_two(s: &[u8]) -> [u8; 2] {
+    match s {
+        [a, b, ..] => [*a, *b],
+        [a] => [*a, 0],
+        [] => [0, 0],
     }
 }
 
-// The reply to record number `i` of a batch, which begins at byte `at` of its trace.
-fn tally_reply(rt: HostRuntime, g: &mut State, these: &[u8], at: usize, replies: &Bytes, i: usize) {
-    let from = times(i, 2);
-    let kind = get(these, from);
-    let reply = add(
-        times(fetch(replies, from), 256),
-        fetch(replies, add(from, 1)),
-    );
-    tally(g, kind, reply);
-    // past the end there is 0, as behind an odd byte
-    let value = get(these, add(from, 1));
-    show(rt, g, b" record ", add(at, from) / 2, kind, value, reply);
+// A reply record as a number.
+fn number(reply: [u8; 2]) -> usize {
+    usize::from(u16::from_be_bytes(reply))
 }
 
-fn tally_replies(rt: HostRuntime, g: &mut State, these: &[u8], at: usize, replies: &Bytes) {
-    let n = these.len() / 2 + these.len() % 2;
-    let mut i: usize = 0;
-    while i < n {
-        tally_reply(rt, g, these, at, replies, i);
-        i += 1;
+fn tally_replies(rt: HostRuntime, g: &mut State, batch: Batch<'_>, replies: &[u8]) {
+    for (i, (record, reply)) in batch.bytes.chunks(2).zip(replies.chunks(2)).enumerate() {
+        let [kind, value] = first_two(record);
+        let reply = first_two(reply);
+        g.tally.count(kind, reply);
+        let place = add(batch.at / 2, i);
+        show(
+            rt,
+            g,
+            "record",
+            [place, wide(kind), wide(value), number(reply)],
+        );
     }
 }
 
 fn short_room(g: &mut State, need: usize) -> usize {
-    match below(g, 3) {
+    match g.below(3) {
         0 => sub(need, 1),
         1 => sub(need, 2),
-        _ => below(g, need),
+        _ => g.below(need),
     }
-}
-
-// A batch, lent what the state says, with this room for replies.
-fn run_lent(
-    t: Target,
-    g: &State,
-    these: &[u8],
-    replies: &mut Bytes,
-    room: usize,
-    fixed: &Fixed,
-    array: &mut Array,
-    registers: &mut Registers,
-    counts: &mut Bytes,
-) -> Ran {
-    lent_run(
-        t,
-        lengths(g),
-        these,
-        these.len(),
-        replies,
-        room,
-        fixed,
-        array,
-        registers,
-        counts,
-        flags_of(fixed),
-    )
-}
-
-// A batch with too little room, and its answer. Four reply bytes past the room needed are digested too, here and below.
-fn run_short(
-    rt: HostRuntime,
-    t: Target,
-    g: &mut State,
-    these: &[u8],
-    at: usize,
-    need: usize,
-    replies: &mut Bytes,
-    fixed: &Fixed,
-    array: &mut Array,
-    registers: &mut Registers,
-    counts: &mut Bytes,
-) -> Target {
-    let room = short_room(g, need);
-    let ran = run_lent(t, g, these, replies, room, fixed, array, registers, counts);
-    let answer = ran.answer;
-    let r = run_number(answer) as usize;
-    absorb(g, r);
-    absorb_front(g, replies, add(need, 4));
-    if r == 16 {
-        one_more(g, 64);
-    }
-    show(rt, g, b" room ", at / 2, room, r, 0);
-    ran.target
-}
-
-// A batch with room enough, and its replies.
-fn run_whole(
-    rt: HostRuntime,
-    t: Target,
-    g: &mut State,
-    these: &[u8],
-    at: usize,
-    need: usize,
-    replies: &mut Bytes,
-    fixed: &Fixed,
-    array: &mut Array,
-    registers: &mut Registers,
-    counts: &mut Bytes,
-) -> Target {
-    let room = add(need, below(g, 5));
-    let ran = run_lent(t, g, these, replies, room, fixed, array, registers, counts);
-    let answer = ran.answer;
-    absorb(g, run_number(answer) as usize);
-    absorb_front(g, replies, add(need, 4));
-    tally_replies(rt, g, these, at, replies);
-    ran.target
-}
-
-// Runs 'bytes' bytes from 'at' on; where the knob says so, first with too little room.
-fn run_batch(
-    rt: HostRuntime,
-    t: Target,
-    g: &mut State,
-    records: &[u8],
-    at: usize,
-    bytes: usize,
-    fixed: &Fixed,
-    array: &mut Array,
-    registers: &mut Registers,
-    counts: &mut Bytes,
-) -> Target {
-    let need = times(bytes / 2 + bytes % 2, 2);
-    let these = part_of(records, at, bytes);
-    let mut replies = [238u8; 8192];
-    let n = if sometimes(g, knob::SHORT) {
-        run_short(
-            rt,
-            t,
-            g,
-            these,
-            at,
-            need,
-            &mut replies,
-            fixed,
-            array,
-            registers,
-            counts,
-        )
-    } else {
-        t
-    };
-    run_whole(
-        rt,
-        n,
-        g,
-        these,
-        at,
-        need,
-        &mut replies,
-        fixed,
-        array,
-        registers,
-        counts,
-    )
-}
-
-// One event, lent what the state says: the record after it and its reply.
-fn step_lent(
-    t: Target,
-    g: &State,
-    e: Event,
-    fixed: &Fixed,
-    array: &mut Array,
-    registers: &mut Registers,
-    counts: &mut Bytes,
-) -> Stepped {
-    lent_step(
-        t,
-        lengths(g),
-        e,
-        fixed,
-        array,
-        registers,
-        counts,
-        flags_of(fixed),
-    )
-}
-
-// One record by the call for one event.
-fn run_single(
-    rt: HostRuntime,
-    t: Target,
-    g: &mut State,
-    records: &[u8],
-    at: usize,
-    fixed: &Fixed,
-    array: &mut Array,
-    registers: &mut Registers,
-    counts: &mut Bytes,
-) -> Target {
-    let kind = get(records, at);
-    let value = get(records, add(at, 1));
-    let e = Event {
-        kind: byte(kind),
-        value: byte(value),
-    };
-    let s = step_lent(t, g, e, fixed, array, registers, counts);
-    let r = s.reply;
-    let reply = reply_first(r) as usize * 256 + reply_second(r) as usize;
-    absorb(g, reply);
-    tally(g, kind, reply);
-    show(rt, g, b" event ", at / 2, kind, value, reply);
-    s.target
-}
-
-fn source_number(s: Source) -> usize {
-    match s {
-        Source::Nothing => 0,
-        Source::Registers => 1,
-        Source::Parameters => 2,
-    }
-}
-
-// The unread rest: where it lies, and its bytes.
-fn absorb_rest<'a>(rt: HostRuntime, t: Target, g: &mut State, page: &'a [u8], registers: &'a [u8]) {
-    let p = count(g[place::PAGE_LEN], page);
-    let r = count(g[place::REGISTERS_LEN], registers);
-    let u = unread_part(t, p, r);
-    let source = u.source;
-    let which = source_number(source);
-    absorb(g, which);
-    absorb(g, u.at);
-    absorb(g, u.count);
-    absorb_bytes(g, unread::rest(t, &page[..p], &registers[..r]));
-    show(rt, g, b" rest ", which, u.at, u.count, 0);
-}
-
-// The number of blank blocks that the record keeps, by LUN.
-pub fn absorb_blanks(rt: HostRuntime, t: Target, g: &mut State) {
-    let luns = t.luns;
-    let a = blank_at(luns, 0) as usize;
-    let b = blank_at(luns, 1) as usize;
-    let c = blank_at(luns, 2) as usize;
-    let d = blank_at(luns, 3) as usize;
-    absorb(g, a);
-    absorb(g, b);
-    absorb(g, c);
-    absorb(g, d);
-    show(rt, g, b" blanks ", a, b, c, d);
-}
-
-// The record's numbers that no reply need show: which LUNs have a copyback open, what is kept behind a status, and the blank
-// blocks.
-fn absorb_record(rt: HostRuntime, t: Target, g: &mut State) {
-    let luns = t.luns;
-    let a = mark(copyback_at(luns, 0));
-    let b = mark(copyback_at(luns, 1));
-    let c = mark(copyback_at(luns, 2));
-    let d = mark(copyback_at(luns, 3));
-    absorb(g, a);
-    absorb(g, b);
-    absorb(g, c);
-    absorb(g, d);
-    show(rt, g, b" copybacks ", a, b, c, d);
-    let decoder = t.decoder;
-    let output = decoder.kept;
-    let kept = kept_place(output);
-    absorb(g, kept[0]);
-    absorb(g, kept[1]);
-    absorb(g, kept[2]);
-    show(rt, g, b" kept ", kept[0], kept[1], kept[2], 0);
-    absorb_blanks(rt, t, g);
 }
 
 // The kind of an output, its LUN and its next place.
@@ -321,238 +104,249 @@ fn kept_place(o: Output) -> [usize; 3] {
     }
 }
 
-fn mark(on: bool) -> usize {
-    if on { 1 } else { 0 }
-}
-
 // The record of a spoiled event: data out for a legal one (43, 53: data in), which changes no lent byte, else any.
-fn spoiled_kind(g: &mut State, what: usize) -> usize {
-    if is_legal(what) {
-        if (what == 43) | (what == 53) { 2 } else { 3 }
-    } else {
-        below(g, 6)
-    }
-}
-
-fn spoiled_value(g: &mut State, what: usize) -> usize {
-    if is_legal(what) { 0 } else { below(g, 256) }
-}
-
-// One event, then a trace of it and an odd byte; the numbers of blank blocks as they are left.
-fn run_copy(
-    rt: HostRuntime,
-    c: Target,
-    g: &mut State,
-    what: usize,
-    kind: u8,
-    value: u8,
-    fixed: &Fixed,
-    array: &mut Array,
-    registers: &mut Registers,
-    counts: &mut Bytes,
-) {
-    let records = [kind, value, 0u8];
-    let due = if is_legal(what) { g[61] } else { add(g[61], 1) };
-    let c = run_single(rt, c, g, &records, 0, fixed, array, registers, counts);
-    if !(g[61] == due) {
-        one_more(g, place::SURPRISES);
-    }
-    let c = run_batch(rt, c, g, &records, 0, 3, fixed, array, registers, counts);
-    absorb_blanks(rt, c, g);
-}
-
-// A copy that is spoiled.
-fn run_spoiled(
-    rt: HostRuntime,
-    t: Target,
-    g: &mut State,
-    fixed: &Fixed,
-    array: &mut Array,
-    registers: &mut Registers,
-    counts: &mut Bytes,
-) {
-    let what = pick_spoil(g);
-    let follow = below(g, 2);
-    let kind = byte(spoiled_kind(g, what));
-    let value = byte(spoiled_value(g, what));
-    show(rt, g, b" spoil ", what, follow, 0, 0);
-    let c = spoiled(t, g, what);
-    spoil_length(g, what);
-    if (follow == 1) & (1 <= what) & (what <= 8) {
-        follow_geometry(c, g);
-    }
-    absorb_rest(rt, c, g, fixed, registers);
-    run_copy(rt, c, g, what, kind, value, fixed, array, registers, counts);
-    measure(g);
-}
-
-// One time in eight the record itself gets an untrue number of blank blocks that 13 lets pass, 0 or all, and the trace goes on
-// with it: so programs meet a number that stops at 0, and erases one that stops at all.
-fn lie_blank(rt: HostRuntime, t: Target, g: &mut State) -> Target {
-    let what = below(g, 16);
-    let lun = pick_lun(g);
-    if 1 < what {
-        return t;
-    }
-    let number = times(what, g[field::BLOCKS]);
-    show(rt, g, b" lie ", lun, number, 0, 0);
-    with_blank(t, lun, number)
-}
-
-// How many bytes of the trace the next batch has; at times an odd one more.
-fn batch_bytes(g: &mut State, at: usize, step: usize) -> usize {
-    let bytes = at_most(step, sub(g[place::LEN], at));
-    if add(at, bytes) < g[place::LEN] {
-        if sometimes(g, knob::ODD) {
-            return add(bytes, 1);
+fn spoiled_record(g: &mut State, what: usize) -> [u8; 2] {
+    match what {
+        43 | 53 => [2, 0],
+        _ if is_legal(what) => [3, 0],
+        _ => {
+            let kind = byte(g.below(6));
+            [kind, g.any_byte()]
         }
     }
-    bytes
 }
 
-// One batch of a trace, at byte 'at'; with a step of one record, its event.
-fn run_next(
-    rt: HostRuntime,
-    t: Target,
-    g: &mut State,
-    records: &Bytes,
-    at: usize,
-    step: usize,
-    fixed: &Fixed,
-    array: &mut Array,
-    registers: &mut Registers,
-    counts: &mut Bytes,
-) -> Target {
-    let bytes = batch_bytes(g, at, step);
-    if step == 2 {
-        run_single(rt, t, g, records, at, fixed, array, registers, counts)
+// How many bytes of the trace the next batch has: all of these, and at times an odd one more.
+fn batch_bytes(g: &mut State, trace: &[u8], at: usize, bytes: usize) -> usize {
+    if add(at, bytes) < trace.len() && g.chance(g.knobs.odd) {
+        add(bytes, 1)
     } else {
-        run_batch(
-            rt, t, g, records, at, bytes, fixed, array, registers, counts,
-        )
+        bytes
     }
 }
 
-// One batch of a trace, and what is looked at after it.
-fn run_some(
-    rt: HostRuntime,
-    t: Target,
-    g: &mut State,
-    records: &Bytes,
-    at: usize,
-    step: usize,
-    fixed: &Fixed,
-    array: &mut Array,
-    registers: &mut Registers,
-    counts: &mut Bytes,
-) -> Target {
-    let n = run_next(rt, t, g, records, at, step, fixed, array, registers, counts);
-    absorb_rest(rt, n, g, fixed, registers);
-    absorb_record(rt, n, g);
-    if sometimes(g, knob::SPOIL) {
-        run_spoiled(rt, n, g, fixed, array, registers, counts);
-        lie_blank(rt, n, g)
-    } else {
-        n
+impl Bench {
+    pub fn new() -> Bench {
+        Bench {
+            target: unpowered(),
+            buffers: Buffers::new(),
+        }
     }
-}
 
-// A trace in batches of 'step' bytes; with a step of one record, event by event.
-fn run_records(
-    rt: HostRuntime,
-    t: Target,
-    g: &mut State,
-    records: &Bytes,
-    fixed: &Fixed,
-    array: &mut Array,
-    registers: &mut Registers,
-    counts: &mut Bytes,
-) -> Target {
-    let longest = g[knob::STEP];
-    let step = add(2, times(2, below(g, longest)));
-    let batches = batches(g[place::LEN], step);
-    let mut n = t;
-    let mut i: usize = 0;
-    while i < batches {
-        n = run_some(
-            rt,
-            n,
-            g,
-            records,
-            times(i, step),
-            step,
-            fixed,
-            array,
-            registers,
-            counts,
+    // Power-on as lent: the number of its answer, which is digested.
+    pub fn power_on(&mut self, g: &mut State) -> usize {
+        let b = &mut self.buffers;
+        let powered = lent_power(
+            lengths(g),
+            g.device,
+            &b.page,
+            &b.array,
+            &mut b.registers,
+            &b.counts,
+            &b.flags,
         );
-        i += 1;
+        let (answer, target) = match powered {
+            Ok(target) => (0, target),
+            Err(refused) => (refused.why.number(), refused.target),
+        };
+        let number = wide(answer);
+        self.target = target;
+        g.tally.absorb(number);
+        number
     }
-    n
-}
 
-// Runs the trace that was made.
-pub fn run_trace(
-    rt: HostRuntime,
-    t: Target,
-    g: &mut State,
-    fixed: &Fixed,
-    array: &mut Array,
-    registers: &mut Registers,
-    counts: &mut Bytes,
-) -> Target {
-    let mut records = [0u8; 8192];
-    give_trace(g, &mut records);
-    run_records(rt, t, g, &records, fixed, array, registers, counts)
-}
-
-// How many steps a length takes.
-fn batches(len: usize, step: usize) -> usize {
-    if step == 0 {
-        return 0;
+    // A batch, lent what the state says, with this room for replies: the number of its answer, which is digested like
+    // the replies and four bytes past the room that they need.
+    fn run(&mut self, g: &mut State, batch: Batch<'_>, replies: &mut [u8], room: usize) -> usize {
+        let b = &mut self.buffers;
+        let ran = lent_run(
+            self.target,
+            lengths(g),
+            batch.bytes,
+            batch.bytes.len(),
+            replies,
+            room,
+            &b.page,
+            &mut b.array,
+            &mut b.registers,
+            &mut b.counts,
+            &b.flags,
+        );
+        self.target = ran.unwrap_or(self.target);
+        let number = wide(run_number(ran));
+        g.tally.absorb(number);
+        g.tally.absorb_front(replies, add(batch.need(), 4));
+        number
     }
-    if len % step == 0 {
-        len / step
-    } else {
-        add(len / step, 1)
+
+    // A batch with too little room.
+    fn run_short(&mut self, rt: HostRuntime, g: &mut State, batch: Batch<'_>, replies: &mut [u8]) {
+        let room = short_room(g, batch.need());
+        let number = self.run(g, batch, replies, room);
+        if number == 16 {
+            g.tally.refuse(16);
+        }
+        show(rt, g, "room", [batch.at / 2, room, number, 0]);
     }
-}
 
-pub fn absorb_buffers(
-    g: &mut State,
-    fixed: &Fixed,
-    array: &Array,
-    registers: &Registers,
-    counts: &Bytes,
-) {
-    let n = g[place::ARRAY_LEN];
-    absorb_front(g, array, n);
-    let n = g[place::REGISTERS_LEN];
-    absorb_front(g, registers, n);
-    let n = g[place::COUNTS_LEN];
-    absorb_front(g, counts, n);
-    let n = g[place::FLAGS_LEN];
-    absorb_front(g, flags_of(fixed), n);
-}
+    // A batch; where the knob says so, first with too little room.
+    fn run_batch(&mut self, rt: HostRuntime, g: &mut State, batch: Batch<'_>) {
+        let mut replies = [238; ROOM];
+        if g.chance(g.knobs.short) {
+            self.run_short(rt, g, batch, &mut replies);
+        }
+        let room = add(batch.need(), g.below(5));
+        self.run(g, batch, &mut replies, room);
+        tally_replies(rt, g, batch, &replies);
+    }
 
-// Power-on as lent; its answer is digested.
-pub fn powered(
-    g: &mut State,
-    fixed: &Fixed,
-    array: &Array,
-    registers: &mut Registers,
-    counts: &Bytes,
-) -> Powered {
-    let p = lent_power(
-        lengths(g),
-        byte(g[place::DEVICE]),
-        fixed,
-        array,
-        registers,
-        counts,
-        flags_of(fixed),
-    );
-    let answer = p.answer;
-    absorb(g, power_number(answer) as usize);
-    p
+    // One record by the call for one event.
+    fn run_single(&mut self, rt: HostRuntime, g: &mut State, batch: Batch<'_>) {
+        let [kind, value] = first_two(batch.bytes);
+        let b = &mut self.buffers;
+        let stepped = lent_step(
+            self.target,
+            lengths(g),
+            Event { kind, value },
+            &b.page,
+            &mut b.array,
+            &mut b.registers,
+            &mut b.counts,
+            &b.flags,
+        );
+        self.target = stepped.target;
+        let reply = [reply_first(stepped.reply), reply_second(stepped.reply)];
+        g.tally.absorb(number(reply));
+        g.tally.count(kind, reply);
+        show(
+            rt,
+            g,
+            "event",
+            [batch.at / 2, wide(kind), wide(value), number(reply)],
+        );
+    }
+
+    // The unread rest: where it lies, and its bytes.
+    fn absorb_rest(&self, rt: HostRuntime, g: &mut State) {
+        let b = &self.buffers;
+        let page = &b.page[..count(g.lengths.page, &b.page)];
+        let registers = &b.registers[..count(g.lengths.registers, &b.registers)];
+        let unread = unread_part(self.target, page.len(), registers.len());
+        let [which, at, count] = match unread {
+            None => [0, 0, 0],
+            Some(part) => match part.source {
+                Source::Registers => [1, part.at, part.count],
+                Source::Parameters => [2, part.at, part.count],
+            },
+        };
+        g.tally.absorb_all(&[which, at, count]);
+        g.tally.absorb_bytes(rest(self.target, page, registers));
+        show(rt, g, "rest", [which, at, count, 0]);
+    }
+
+    // The number of blank blocks that the record keeps, by LUN.
+    pub fn absorb_blanks(&self, rt: HostRuntime, g: &mut State) {
+        let blanks = self.target.luns.map(|lun| usize::from(lun.blank));
+        g.tally.absorb_all(&blanks);
+        show(rt, g, "blanks", blanks);
+    }
+
+    // The record's numbers that no reply need show: which LUNs have a copyback open, what is kept behind a status, and
+    // the blank blocks.
+    fn absorb_record(&self, rt: HostRuntime, g: &mut State) {
+        let open = self.target.luns.map(|lun| usize::from(lun.copyback));
+        g.tally.absorb_all(&open);
+        show(rt, g, "copybacks", open);
+        let [kind, lun, at] = kept_place(self.target.decoder.kept);
+        g.tally.absorb_all(&[kind, lun, at]);
+        show(rt, g, "kept", [kind, lun, at, 0]);
+        self.absorb_blanks(rt, g);
+    }
+
+    pub fn absorb_buffers(&self, g: &mut State) {
+        let b = &self.buffers;
+        g.tally.absorb_front(&b.array, g.lengths.array);
+        g.tally.absorb_front(&b.registers, g.lengths.registers);
+        g.tally.absorb_front(&b.counts, g.lengths.counts);
+        g.tally.absorb_front(&b.flags, g.lengths.flags);
+    }
+
+    // On a record that is spoiled already: one event, then a trace of it and an odd byte; the numbers of blank blocks
+    // as they are left.
+    fn run_copy(&mut self, rt: HostRuntime, g: &mut State, what: usize, record: [u8; 2]) {
+        let [kind, value] = record;
+        let batch = Batch {
+            bytes: &[kind, value, 0],
+            at: 0,
+        };
+        let refused = g.tally.refused[13];
+        let due = if is_legal(what) {
+            refused
+        } else {
+            add(refused, 1)
+        };
+        self.run_single(rt, g, batch);
+        if g.tally.refused[13] != due {
+            g.tally.surprises = add(g.tally.surprises, 1);
+        }
+        self.run_batch(rt, g, batch);
+        self.absorb_blanks(rt, g);
+    }
+
+    // A copy of the record is spoiled and run; then the record is as it was.
+    fn run_spoiled(&mut self, rt: HostRuntime, g: &mut State) {
+        let what = pick_spoil(g);
+        let follow = g.below(2);
+        let record = spoiled_record(g, what);
+        show(rt, g, "spoil", [what, follow, 0, 0]);
+        let kept = self.target;
+        spoil(&mut self.target, &g.part, what);
+        spoil_length(g, what);
+        if follow == 1 && matches!(what, 1..=8) {
+            follow_geometry(&self.target, g);
+        }
+        self.absorb_rest(rt, g);
+        self.run_copy(rt, g, what, record);
+        self.target = kept;
+        g.measure();
+    }
+
+    // One time in eight the record itself gets an untrue number of blank blocks that 13 lets pass, 0 or all, and the
+    // trace goes on with it: so programs meet a number that stops at 0, and erases one that stops at all.
+    fn lie_blank(&mut self, rt: HostRuntime, g: &mut State) {
+        let what = g.below(16);
+        let lun = pick_lun(g);
+        if what <= 1 {
+            let number = times(what, g.part.blocks);
+            show(rt, g, "lie", [lun, number, 0, 0]);
+            set_blank(&mut self.target, lun, number);
+        }
+    }
+
+    // One batch of a trace, or its one event, and what is looked at after it.
+    fn run_some(&mut self, rt: HostRuntime, g: &mut State, batch: Batch<'_>, single: bool) {
+        if single {
+            self.run_single(rt, g, batch);
+        } else {
+            self.run_batch(rt, g, batch);
+        }
+        self.absorb_rest(rt, g);
+        self.absorb_record(rt, g);
+        if g.chance(g.knobs.spoil) {
+            self.run_spoiled(rt, g);
+            self.lie_blank(rt, g);
+        }
+    }
+
+    // Runs the trace that was made, in batches of `step` bytes; with a step of one record, event by event.
+    pub fn run_trace(&mut self, rt: HostRuntime, g: &mut State) {
+        let made = g.trace;
+        let trace = made.records();
+        let step = times(2, g.below(g.knobs.step)).saturating_add(2);
+        for (i, part) in trace.chunks(step).enumerate() {
+            let at = times(i, step);
+            let bytes = batch_bytes(g, trace, at, part.len());
+            self.run_some(rt, g, Batch::of(trace, at, bytes), step == 2);
+        }
+    }
 }

@@ -1,18 +1,14 @@
 // The files of a program's data/.
-ghost use Rattle.std.specs.Prelude.{◌≤◌, length};
 ghost use Rattle.io.specs.Counts.{IsPrefixLen};
 
-use crate::numbers::{add, count, hex_digit, set};
+use crate::numbers::{add, count, hex_value, set, wide};
 use std::fs::File;
 use std::io::{Cursor, Error, ErrorKind, Read, Stderr, Write};
 use std::str::from_utf8;
 
 // A path as text: std opens no other.
 pub fn text_of(path: &[u8]) -> Result<&str, Error> {
-    match from_utf8(path) {
-        Ok(text) => Ok(text),
-        Err(_) => Err(Error::from(ErrorKind::InvalidFilename)),
-    }
+    from_utf8(path).map_err(|_| Error::from(ErrorKind::InvalidFilename))
 }
 
 pub fn open(rt: HostRuntime, path: &[u8]) -> Result<File, Error> {
@@ -26,10 +22,9 @@ fn put_words(to: &mut Stderr, e: &Error) {
     let n = room.position() as usize;
     let text = room.into_inner();
     if let Ok(all) = from_utf8(&text[..count(n, &text)]) {
-        let words = match all.split_once(" (os error ") {
-            Some((front, _)) => front,
-            None => all,
-        };
+        let words = all
+            .split_once(" (os error ")
+            .map_or(all, |(front, _)| front);
         let _ = to.write_all(words.as_bytes());
     }
 }
@@ -44,21 +39,17 @@ fn tell(rt: HostRuntime, path: &[u8], e: &Error) {
 
 // Reads until the buffer is full or the input ends; an input that fails has ended.
 fn read_full(file: File, to: &mut [u8]) -> usize
-    ensures { result ≤ length to.new }
+    ensures { IsPrefixLen result to.new }
 {
     let mut input = file;
     let mut at = 0;
-    for _ in 0..u64::MAX {
-        if at >= to.len() {
-            break;
-        }
+    while at < to.len() {
         match input.read(&mut to[at..]) {
-            Ok(0) => break,
+            Ok(0) | Err(_) => break,
             Ok(n) => at += n,
-            Err(_) => break,
         }
     }
-    at
+    count(at, to)
 }
 
 // As many bytes of a file as there is room for; none, and a line on standard error, where it can't be read.
@@ -66,13 +57,10 @@ pub fn load(rt: HostRuntime, path: &[u8], to: &mut [u8]) -> usize
     ensures { IsPrefixLen result to.new }
 {
     match open(rt, path) {
-        Ok(file) => {
-            let n = read_full(file, to);
-            count(n, to)
-        }
+        Ok(file) => read_full(file, to),
         Err(e) => {
             tell(rt, path, &e);
-            count(0, to)
+            0
         }
     }
 }
@@ -82,36 +70,32 @@ pub fn load(rt: HostRuntime, path: &[u8], to: &mut [u8]) -> usize
 struct Digits {
     // bytes that are whole
     at: usize,
-    // the first digit of a byte, 16 where none has come
-    first: usize,
+    // the first digit of the next byte, where it has come
+    first: Option<u8>,
     // inside a remark, from # to the end of its line
     remark: bool,
 }
 
-fn digit_taken(d: Digits, v: usize, to: &mut [u8]) -> Digits {
-    if 15 < v {
-        return d;
+impl Digits {
+    fn digit(&mut self, v: u8, to: &mut [u8]) {
+        match self.first.take() {
+            None => self.first = Some(v),
+            Some(first) => {
+                set(to, self.at, add(wide(first) % 16 * 16, wide(v)));
+                self.at = add(self.at, 1);
+            }
+        }
     }
-    if 15 < d.first {
-        return Digits { first: v, ..d };
-    }
-    set(to, d.at, add(d.first % 16 * 16, v));
-    Digits {
-        at: add(d.at, 1),
-        first: 16,
-        ..d
-    }
-}
 
-fn taken(d: Digits, c: u8, to: &mut [u8]) -> Digits {
-    match c {
-        b'#' => Digits { remark: true, ..d },
-        b'\n' => Digits { remark: false, ..d },
-        _ => {
-            if d.remark {
-                d
-            } else {
-                digit_taken(d, hex_digit(c), to)
+    fn take(&mut self, c: u8, to: &mut [u8]) {
+        match c {
+            b'#' => self.remark = true,
+            b'\n' => self.remark = false,
+            _ if self.remark => {}
+            _ => {
+                if let Some(v) = hex_value(c) {
+                    self.digit(v, to);
+                }
             }
         }
     }
@@ -119,17 +103,15 @@ fn taken(d: Digits, c: u8, to: &mut [u8]) -> Digits {
 
 // The bytes that a text says, two hex digits each; spaces, line ends and remarks go for nothing.
 pub fn from_hex(said: &[u8], to: &mut [u8]) -> usize {
-    let mut d = Digits {
+    let mut digits = Digits {
         at: 0,
-        first: 16,
+        first: None,
         remark: false,
     };
-    let mut i: usize = 0;
-    while i < said.len() {
-        d = taken(d, said[i], to);
-        i += 1;
+    for c in said {
+        digits.take(*c, to);
     }
-    d.at
+    digits.at
 }
 
 // The bytes of a file of hex digits.

@@ -1,5 +1,5 @@
 // Random numbers and digests.
-use crate::numbers::get;
+ghost use Rattle.std.specs.Prelude.{◌<◌};
 
 // What a run of random numbers begins with.
 pub const SEED: usize = 88172645463325252;
@@ -11,22 +11,26 @@ pub fn drawn(x: usize) -> usize {
     b ^ (b << 17)
 }
 
+// A digest with one number more.
+fn mixed<const FACTOR: usize, const MODULUS: usize>(h: usize, n: usize) -> usize
+    requires { 0 < MODULUS }
+{
+    (h % MODULUS)
+        .wrapping_mul(FACTOR)
+        .wrapping_add(n % 4294967296 + 1)
+        % MODULUS
+}
+
 // Two digests, each with one number more.
 pub fn mixed_1(h: usize, n: usize) -> usize {
-    ((h % 4294967291) * 1000003 + n % 4294967296 + 1) % 4294967291
+    mixed::<1000003, 4294967291>(h, n)
 }
 
 pub fn mixed_2(h: usize, n: usize) -> usize {
-    ((h % 4294967279) * 16777619 + n % 4294967296 + 1) % 4294967279
+    mixed::<16777619, 4294967279>(h, n)
 }
 
 // The first digest, of bytes.
 pub fn digest(s: &[u8]) -> usize {
-    let mut h: usize = 0;
-    let mut i: usize = 0;
-    while i < s.len() {
-        h = mixed_1(h, get(s, i));
-        i += 1;
-    }
-    h
+    s.iter().fold(0, |h, b| mixed_1(h, usize::from(*b)))
 }

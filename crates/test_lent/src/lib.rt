@@ -2,11 +2,10 @@
 // part has.
 #![tactic(auto)]
 
-use power::{Powered, power_on};
+use power::{NotPowered, power_on};
 use step::{Stepped, step};
 use target::{Event, Target};
-use test_kit::numbers::count;
-use trace::{Ran, run};
+use trace::{RunRefusal, run};
 
 // How many bytes of each buffer are lent.
 #[derive(Clone, Copy)]
@@ -18,6 +17,18 @@ pub struct Lengths {
     pub flags: usize,
 }
 
+// The first `n` bytes, or all if there are not so many. nib and `test_pages_powers` have their own: neither stands on this crate.
+fn front(s: &[u8], n: usize) -> &[u8] {
+    &s[..n.min(s.len())]
+}
+
+fn front_mut(s: &mut [u8], n: usize) -> &mut [u8] {
+    let n = n.min(s.len());
+    &mut s[..n]
+}
+
+// The buffers one by one, here and below, as `step`, `run` and `power_on` take them: a struct of loans would be made for each
+// call and taken apart in it.
 pub fn lent_step(
     t: Target,
     l: Lengths,
@@ -28,19 +39,14 @@ pub fn lent_step(
     counts: &mut [u8],
     flags: &[u8],
 ) -> Stepped {
-    let p = count(l.page, page);
-    let a = count(l.array, array);
-    let r = count(l.registers, registers);
-    let c = count(l.counts, counts);
-    let f = count(l.flags, flags);
     step(
         t,
         e,
-        &page[..p],
-        &mut array[..a],
-        &mut registers[..r],
-        &mut counts[..c],
-        &flags[..f],
+        front(page, l.page),
+        front_mut(array, l.array),
+        front_mut(registers, l.registers),
+        front_mut(counts, l.counts),
+        front(flags, l.flags),
     )
 }
 
@@ -57,23 +63,16 @@ pub fn lent_run(
     registers: &mut [u8],
     counts: &mut [u8],
     flags: &[u8],
-) -> Ran {
-    let n = count(bytes, records);
-    let m = count(room, replies);
-    let p = count(l.page, page);
-    let a = count(l.array, array);
-    let r = count(l.registers, registers);
-    let c = count(l.counts, counts);
-    let f = count(l.flags, flags);
+) -> Result<Target, RunRefusal> {
     run(
         t,
-        &records[..n],
-        &mut replies[..m],
-        &page[..p],
-        &mut array[..a],
-        &mut registers[..r],
-        &mut counts[..c],
-        &flags[..f],
+        front(records, bytes),
+        front_mut(replies, room),
+        front(page, l.page),
+        front_mut(array, l.array),
+        front_mut(registers, l.registers),
+        front_mut(counts, l.counts),
+        front(flags, l.flags),
     )
 }
 
@@ -85,18 +84,13 @@ pub fn lent_power(
     registers: &mut [u8],
     counts: &[u8],
     flags: &[u8],
-) -> Powered {
-    let p = count(l.page, page);
-    let a = count(l.array, array);
-    let r = count(l.registers, registers);
-    let c = count(l.counts, counts);
-    let f = count(l.flags, flags);
+) -> Result<Target, NotPowered> {
     power_on(
-        &page[..p],
+        front(page, l.page),
         device,
-        &array[..a],
-        &mut registers[..r],
-        &counts[..c],
-        &flags[..f],
+        front(array, l.array),
+        front_mut(registers, l.registers),
+        front(counts, l.counts),
+        front(flags, l.flags),
     )
 }

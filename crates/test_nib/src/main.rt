@@ -3,108 +3,84 @@
 // the input.
 #![tactic(auto)]
 
-use nib_app::act;
+use nib_app::{Words, act};
 use nib_args::asked_of;
-use nib_files::files::{Source, open};
+use nib_files::files::open;
 use slices::part_of;
+use std::fs::File;
+use std::io::{Error, Read};
 use test_kit::files::load;
-use test_kit::numbers::{add, sub};
 use test_kit::write::text;
 
-// Where `mark` stands from place `from` on, or the end.
-fn place(s: &[u8], from: usize, mark: u8) -> usize {
-    let mut i = from;
-    while i < s.len() {
-        if s[i] == mark {
-            return i;
-        }
-        i += 1;
-    }
-    i
+// Where `mark` first stands, or the end.
+fn place(s: &[u8], mark: u8) -> usize {
+    s.iter().position(|&c| c == mark).unwrap_or(s.len())
 }
 
-// Where word number `n` begins.
-fn word_place(s: &[u8], n: usize) -> usize {
-    let mut at: usize = 0;
-    let mut i: usize = 0;
-    while i < n {
-        at = add(place(s, at, b' '), 1);
-        i += 1;
-    }
-    at
-}
-
-// Word number `n`; past the last one there is nothing.
+// Word number `n`, one space between them; past the last one there is nothing.
 fn word(s: &[u8], n: usize) -> &[u8] {
-    let at = word_place(s, n);
-    part_of(s, at, sub(place(s, at, b' '), at))
+    s.split(|&c| c == b' ').nth(n).unwrap_or(b"")
 }
 
-// How many words there are, one space between them.
-fn word_count(s: &[u8]) -> usize {
-    let mut n: usize = 1;
-    let mut i: usize = 0;
-    while i < s.len() {
-        if s[i] == b' ' {
-            n = add(n, 1);
+// What a command reads: a file, or an input that could not be opened. One type for both, since the stack has no room for the buffers of
+// two calls of `act`.
+#[derive(Drop)]
+enum Input {
+    Named(File),
+    Closed,
+}
+
+// The system's number of 'Bad file descriptor'.
+const EBADF: i32 = 9;
+
+impl Read for Input {
+    fn read(&mut self, buf: &mut [u8]) -> Result<usize, Error> {
+        match self {
+            Input::Named(file) => file.read(buf),
+            Input::Closed => Err(Error::from_raw_os_error(EBADF)),
         }
-        i += 1;
     }
-    n
 }
 
 // A command by its words, as nib takes its own.
-fn command(rt: HostRuntime, s: &[u8], input: &mut Source) {
-    let mut out = [0u8; 65536];
-    let second = word(s, 1);
-    let third = word(s, 2);
-    let asked = asked_of(add(word_count(s), 1), word(s, 0), second, third);
-    act(
-        rt,
-        asked,
-        second,
-        third,
-        word(s, 3),
-        word(s, 4),
-        input,
-        &mut out,
+fn command(rt: HostRuntime, s: &[u8], input: &mut Input) {
+    let words = Words {
+        second: word(s, 1),
+        third: word(s, 2),
+        fourth: word(s, 3),
+        fifth: word(s, 4),
+    };
+    let count = s.split(|&c| c == b' ').count();
+    let asked = asked_of(
+        count.saturating_add(1),
+        word(s, 0),
+        words.second,
+        words.third,
     );
-}
-
-fn title(rt: HostRuntime, s: &[u8]) {
-    text(rt, b"== ");
-    text(rt, s);
-    text(rt, b"\n");
+    // what stops a command is told on standard error
+    let _ = act(rt, asked, words, input);
 }
 
 fn tried(rt: HostRuntime, line: &[u8]) {
-    let bar = place(line, 0, b'<');
-    let said = part_of(line, 0, sub(bar, 1));
-    title(rt, said);
-    let mut input = match open(rt, part_of(line, add(bar, 2), line.len())) {
-        Ok(file) => Source::Named(file),
-        Err(_) => Source::Closed,
+    let bar = place(line, b'<');
+    let said = part_of(line, 0, bar.wrapping_sub(1));
+    text(rt, b"== ");
+    text(rt, said);
+    text(rt, b"\n");
+    let file = part_of(line, bar.saturating_add(2), line.len());
+    let mut input = match open(rt, file) {
+        Ok(file) => Input::Named(file),
+        Err(_) => Input::Closed,
     };
-    command(rt, part_of(said, 0, place(said, 0, b',')), &mut input);
-}
-
-// Line after line; the number of turns only ends the loop, and is never met.
-fn all(rt: HostRuntime, s: &[u8]) {
-    let mut at: usize = 0;
-    let mut turns: usize = 0;
-    while turns < 1000 {
-        if s.len() <= at {
-            return;
-        }
-        let end = place(s, at, b'\n');
-        tried(rt, part_of(s, at, sub(end, at)));
-        at = add(end, 1);
-        turns += 1;
-    }
+    command(rt, part_of(said, 0, place(said, b',')), &mut input);
 }
 
 fn main(rt: HostRuntime) {
-    let mut said = [0u8; 4096];
+    let mut said = [0; 4096];
     let n = load(rt, b"commands", &mut said);
-    all(rt, &said[..n]);
+    let lines = said[..n].split_inclusive(|&c| c == b'\n');
+    // the first 1,000 lines, far more than there are
+    for line in lines.take(1000) {
+        tried(rt, line.strip_suffix(b"\n").unwrap_or(line));
+    }
 }

@@ -6,7 +6,10 @@ mod cases;
 mod crcs;
 mod makers;
 
-use cases::{accepted, bits, contents, high_bits, highest, larges, lowest, many, outside, single};
+use cases::{
+    accepted, bits, contents, drawn_cases, early_bytes, high_bits, highest, larges, late_bytes,
+    lowest, outside, sets_of_t1, sets_of_t2, single,
+};
 use crcs::{entries, knowns};
 use makers::{draw_pages, makers_pages};
 
@@ -21,12 +24,12 @@ fn main(rt: HostRuntime) {
     outside(rt);
     bits(rt);
     high_bits(rt);
-    many(rt, 1, 64);
-    many(rt, 2, 64);
+    sets_of_t1(rt);
+    sets_of_t2(rt);
     single(rt);
     contents(rt);
-    many(rt, 3, 256);
-    many(rt, 4, 254);
-    many(rt, 5, 256);
+    late_bytes(rt);
+    early_bytes(rt);
+    drawn_cases(rt);
     larges(rt);
 }

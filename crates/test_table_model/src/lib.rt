@@ -1,5 +1,5 @@
 // The proved model, lent what the table of tools/expect/cases.py says, and records that are spoiled.
 #![tactic(auto)]
 
-pub mod model;
-pub mod spoils;
+pub mod bench;
+mod spoils;

@@ -1,7 +1,5 @@
-// Reads the table of tools/expect/cases.py, and compares what it expects.
+// Reads the table of tools/expect/cases.py word by word, and counts and tells what is compared with it.
 #![tactic(auto)]
 
-pub mod compared;
-pub mod numbers;
-pub mod place;
 pub mod reading;
+pub mod tally;

@@ -3,330 +3,175 @@
 #![tactic(auto)]
 
 use in_place::{run_some, step_lent};
-use power::{power_number, power_on};
+use power::power_on;
 use target::{Event, Target, reply_first, reply_second};
 use test_kit::compare::{differing, refusals};
 use test_kit::files::load_hex;
-use test_kit::numbers::{byte, get, set, wide};
 use test_kit::random::{SEED, drawn};
-use test_kit::write::{line, text};
 use trace::{run, run_number};
 
-// A parameter page; the script; the trace, and room for its replies and a little more; the buffers of T1.
+// A parameter page; the script; the trace.
 type Page = [u8; 256];
 
 type Script = [u8; 384];
 
 type Records = [u8; 49152];
 
-type Room = [u8; 49160];
-
-type Array = [u8; 33792];
-
-type Registers = [u8; 1056];
-
-type Counts = [u8; 64];
+// The buffers of T1, and room for the trace's replies and a little more.
+#[derive(Clone, Copy)]
+struct Buffers {
+    room: [u8; 49160],
+    array: [u8; 33792],
+    registers: [u8; 1056],
+    counts: [u8; 64],
+}
 
 // No bad block.
 const GOOD: [u8; 16] = [0; 16];
 
-// The script's byte, or in one of sixteen places another.
-fn record_byte(i: usize, x: usize, script: &Script) -> u8 {
-    if x % 16 == 0 {
-        if i % 2 == 0 {
-            byte(x / 16 % 6)
-        } else {
-            byte(x / 16)
-        }
-    } else {
-        script[i % 384]
+// The buffers right after power-on.
+fn fresh() -> Buffers {
+    Buffers {
+        room: [0xee; 49160],
+        array: [0xff; 33792],
+        registers: [0xff; 1056],
+        counts: [0; 64],
     }
 }
 
-// The script over and over, with a byte changed here and there.
+// The script over and over, with another byte in one of sixteen places.
 fn lay_trace(records: &mut [u8], script: &Script) {
-    let mut x: usize = SEED;
-    let mut i: usize = 0;
-    while i < records.len() {
+    let mut x = SEED;
+    for (i, byte) in records.iter_mut().enumerate() {
         x = drawn(x);
-        records[i] = record_byte(i, x, script);
-        i += 1;
+        *byte = if x % 16 != 0 {
+            script[i % 384]
+        } else if i % 2 == 0 {
+            (x / 16 % 6) as u8
+        } else {
+            (x / 16 % 256) as u8
+        };
     }
 }
 
-fn event_at(records: &[u8], i: usize) -> Event {
-    if i < records.len() / 2 {
-        Event {
-            kind: byte(get(records, 2 * i)),
-            value: byte(get(records, 2 * i + 1)),
-        }
-    } else {
-        Event {
-            kind: 0,
-            value: 0xff,
-        }
-    }
-}
-
-fn sixty_four(records: &[u8], from: usize) -> [Event; 64] {
+// The 64 events of a batch, two bytes each.
+fn events_of(batch: &[u8]) -> [Event; 64] {
     let mut events = [Event { kind: 0, value: 0 }; 64];
-    let mut i: usize = 0;
-    while i < 64 {
-        events[i] = event_at(records, from % 1000000 + i);
-        i += 1;
+    for (event, record) in events.iter_mut().zip(batch.chunks_exact(2)) {
+        if let &[kind, value] = record {
+            *event = Event { kind, value };
+        }
     }
     events
 }
 
-// Batch number `k` of 64.
-fn batch(
-    t: Target,
-    k: usize,
-    records: &[u8],
-    room: &mut [u8],
-    page: &[u8],
-    array: &mut [u8],
-    registers: &mut [u8],
-    counts: &mut [u8],
-    flags: &[u8],
-) -> Target {
-    let at = k % 10000 * 128;
-    if at + 128 <= room.len() {
-        let events = sixty_four(records, k % 10000 * 64);
+fn by_batches(target: Target, page: &Page, records: &Records, buffers: &mut Buffers) {
+    let Buffers {
+        room,
+        array,
+        registers,
+        counts,
+    } = buffers;
+    let mut t = target;
+    for (batch, replies) in records.chunks_exact(128).zip(room.chunks_exact_mut(128)) {
         let ran = run_some(
             t,
-            events,
+            events_of(batch),
             64,
             page,
             array,
             registers,
             counts,
-            flags,
-            &mut room[at..at + 128],
+            &GOOD,
+            replies,
         );
-        ran.target
-    } else {
-        t
+        t = ran.unwrap_or(t);
     }
 }
 
-fn by_batches(
-    t: Target,
-    records: &[u8],
-    room: &mut [u8],
-    page: &[u8],
-    array: &mut [u8],
-    registers: &mut [u8],
-    counts: &mut [u8],
-    flags: &[u8],
-) -> Target {
-    let n = records.len() / 128;
-    let mut last = t;
-    let mut k: usize = 0;
-    while k < n {
-        last = batch(
-            last, k, records, room, page, array, registers, counts, flags,
-        );
-        k += 1;
-    }
-    last
-}
-
-// Record number `i` over a record that is lent.
-fn single(
-    t: Target,
-    i: usize,
-    records: &[u8],
-    room: &mut [u8],
-    page: &[u8],
-    array: &mut [u8],
-    registers: &mut [u8],
-    counts: &mut [u8],
-    flags: &[u8],
-) -> Target {
-    let e = event_at(records, i);
-    let s = step_lent(t, e, page, array, registers, counts, flags);
-    let r = s.reply;
-    let at = i % 1000000 * 2;
-    set(room, at, wide(reply_first(r)));
-    set(room, at + 1, wide(reply_second(r)));
-    s.target
-}
-
-fn by_events(
-    t: Target,
-    records: &[u8],
-    room: &mut [u8],
-    page: &[u8],
-    array: &mut [u8],
-    registers: &mut [u8],
-    counts: &mut [u8],
-    flags: &[u8],
-) -> Target {
-    let n = records.len() / 2;
-    let mut last = t;
-    let mut i: usize = 0;
-    while i < n {
-        last = single(
-            last, i, records, room, page, array, registers, counts, flags,
-        );
-        i += 1;
-    }
-    last
-}
-
-// A way's replies and buffers against those of the byte trace.
-fn compared(
-    rt: HostRuntime,
-    way: &[u8],
-    room: &Room,
-    array: &Array,
-    registers: &Registers,
-    counts: &Counts,
-    other_room: &Room,
-    other_array: &Array,
-    other_registers: &Registers,
-    other_counts: &Counts,
-) {
-    text(rt, way);
-    line(
-        rt,
-        b": reply bytes that differ ",
-        differing(room, other_room, 49160),
-    );
-    text(rt, way);
-    line(
-        rt,
-        b": array bytes that differ ",
-        differing(array, other_array, 33792),
-    );
-    text(rt, way);
-    line(
-        rt,
-        b": register bytes that differ ",
-        differing(registers, other_registers, 1056),
-    );
-    text(rt, way);
-    line(
-        rt,
-        b": counts that differ ",
-        differing(counts, other_counts, 64),
-    );
-}
-
-fn second_way(
-    rt: HostRuntime,
-    t: Target,
-    page: &Page,
-    records: &Records,
-    room: &Room,
-    array: &Array,
-    registers: &Registers,
-    counts: &Counts,
-) {
-    let mut m = [0xeeu8; 49160];
-    let mut a = [0xffu8; 33792];
-    let mut r = [0xffu8; 1056];
-    let mut c = [0u8; 64];
-    by_batches(t, records, &mut m, page, &mut a, &mut r, &mut c, &GOOD);
-    compared(
-        rt, b"batches", room, array, registers, counts, &m, &a, &r, &c,
-    );
-}
-
-fn third_way(
-    rt: HostRuntime,
-    t: Target,
-    page: &Page,
-    records: &Records,
-    room: &Room,
-    array: &Array,
-    registers: &Registers,
-    counts: &Counts,
-) {
-    let mut m = [0xeeu8; 49160];
-    let mut a = [0xffu8; 33792];
-    let mut r = [0xffu8; 1056];
-    let mut c = [0u8; 64];
-    by_events(t, records, &mut m, page, &mut a, &mut r, &mut c, &GOOD);
-    compared(
-        rt,
-        b"one at a time",
+fn by_events(target: Target, page: &Page, records: &Records, buffers: &mut Buffers) {
+    let Buffers {
         room,
         array,
         registers,
         counts,
-        &m,
-        &a,
-        &r,
-        &c,
+    } = buffers;
+    let mut t = target;
+    for (record, reply) in records.chunks_exact(2).zip(room.chunks_exact_mut(2)) {
+        if let (&[kind, value], [first, second]) = (record, reply) {
+            let event = Event { kind, value };
+            let stepped = step_lent(t, event, page, array, registers, counts, &GOOD);
+            *first = reply_first(stepped.reply);
+            *second = reply_second(stepped.reply);
+            t = stepped.target;
+        }
+    }
+}
+
+// A way's replies and buffers against those of the byte trace.
+fn compare(rt: HostRuntime, way: &str, due: &Buffers, got: &Buffers) {
+    let room = differing(&due.room, &got.room, 49160);
+    let array = differing(&due.array, &got.array, 33792);
+    let registers = differing(&due.registers, &got.registers, 1056);
+    let counts = differing(&due.counts, &got.counts, 64);
+    let _ = println!(rt; "{way}: reply bytes that differ {room}");
+    let _ = println!(rt; "{way}: array bytes that differ {array}");
+    let _ = println!(rt; "{way}: register bytes that differ {registers}");
+    let _ = println!(rt; "{way}: counts that differ {counts}");
+}
+
+fn power(rt: HostRuntime, page: &Page, buffers: &mut Buffers) -> Target {
+    let on = power_on(
+        page,
+        0x68,
+        &buffers.array,
+        &mut buffers.registers,
+        &buffers.counts,
+        &GOOD,
     );
+    let (answer, target) = match on {
+        Ok(target) => (0, target),
+        Err(refused) => (refused.why.number(), refused.target),
+    };
+    let _ = println!(rt; "power-on answers {answer}");
+    target
 }
 
-fn power(
-    rt: HostRuntime,
-    page: &Page,
-    array: &Array,
-    registers: &mut Registers,
-    counts: &Counts,
-) -> Target {
-    let on = power_on(page, 0x68, array, registers, counts, &GOOD);
-    let answer = on.answer;
-    line(rt, b"power-on answers ", power_number(answer) as usize);
-    on.target
-}
-
-fn first_way(
-    rt: HostRuntime,
-    t: Target,
-    page: &Page,
-    records: &Records,
-    room: &mut Room,
-    array: &mut Array,
-    registers: &mut Registers,
-    counts: &mut Counts,
-) {
-    let ran = run(t, records, room, page, array, registers, counts, &GOOD);
-    let answer = ran.answer;
-    line(rt, b"the byte trace answers ", run_number(answer) as usize);
-}
-
-// What the byte trace did.
-fn told(rt: HostRuntime, room: &Room, array: &Array) {
-    line(rt, b"records ", 49152 / 2);
-    line(rt, b"refused ", refusals(room));
-    line(
-        rt,
-        b"array bytes changed ",
-        differing(array, &[0xffu8; 33792], 33792),
+fn by_bytes(rt: HostRuntime, t: Target, page: &Page, records: &Records, buffers: &mut Buffers) {
+    let ran = run(
+        t,
+        records,
+        &mut buffers.room,
+        page,
+        &mut buffers.array,
+        &mut buffers.registers,
+        &mut buffers.counts,
+        &GOOD,
     );
+    let _ = println!(rt; "the byte trace answers {}", run_number(ran));
+    let _ = println!(rt; "records {}", records.len() / 2);
+    let _ = println!(rt; "refused {}", refusals(&buffers.room));
+    let changed = buffers.array.iter().filter(|&&b| b != 0xff).count();
+    let _ = println!(rt; "array bytes changed {changed}");
 }
 
 fn all_ways(rt: HostRuntime, page: &Page, records: &Records) {
-    let mut array = [0xffu8; 33792];
-    let mut registers = [0u8; 1056];
-    let mut counts = [0u8; 64];
-    let mut room = [0xeeu8; 49160];
-    let t = power(rt, page, &array, &mut registers, &counts);
-    first_way(
-        rt,
-        t,
-        page,
-        records,
-        &mut room,
-        &mut array,
-        &mut registers,
-        &mut counts,
-    );
-    told(rt, &room, &array);
-    second_way(rt, t, page, records, &room, &array, &registers, &counts);
-    third_way(rt, t, page, records, &room, &array, &registers, &counts);
+    let mut bytes = fresh();
+    bytes.registers = [0; 1056];
+    let t = power(rt, page, &mut bytes);
+    by_bytes(rt, t, page, records, &mut bytes);
+    let mut batches = fresh();
+    by_batches(t, page, records, &mut batches);
+    compare(rt, "batches", &bytes, &batches);
+    let mut events = fresh();
+    by_events(t, page, records, &mut events);
+    compare(rt, "one at a time", &bytes, &events);
 }
 
 fn main(rt: HostRuntime) {
-    let mut page = [0u8; 256];
-    let mut script = [0u8; 384];
-    let mut records = [0u8; 49152];
+    let mut page = [0; 256];
+    let mut script = [0; 384];
+    let mut records = [0; 49152];
     load_hex(rt, b"t1", &mut page);
     load_hex(rt, b"script", &mut script);
     lay_trace(&mut records, &script);

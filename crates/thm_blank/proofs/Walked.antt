@@ -23,15 +23,9 @@ use Rattle.target.specs.declared.Second.TheVariants.{StartRead, StartOutput, Sta
 use Rattle.target.specs.declared.Sequence.{Sequence}
 use Rattle.target.specs.declared.Sequence.TheVariants.{Idle, Columns, Rows, Single, Due, Filling, Moving, Setting}
 use Rattle.target.specs.declared.Target.{Target}
-use Rattle.target.specs.declared.Verdict.{Verdict}
-use Rattle.target.specs.declared.Verdict.TheVariants as verdicts
 use Rattle.target.specs.declared.Words.{Words}
 use Rattle.target.specs.declared.Work.{Work}
 use Rattle.target.specs.declared.Work.TheVariants as work
-use Rattle.target.specs.declared.commands.FirstFound.{FirstFound}
-use Rattle.target.specs.declared.commands.FirstFound.TheVariants as first
-use Rattle.target.specs.declared.views.Ender.{Ender}
-use Rattle.target.specs.declared.views.Ender.TheVariants as ender
 use Rattle.target.specs.declared.views.Given.{Given}
 use Rattle.target.specs.declared.views.Given.TheVariants as given
 use Rattle.target.specs.declared.views.Taker.{Taker}
@@ -56,6 +50,10 @@ use Rattle.thm_steps.proofs.Status.{stored-leaves, row-leaves}
 use Rattle.thm_steps.proofs.Blank.{moves_act, readied-leaves}
 use Rattle.thm_blank.specs.Walked.{Walked, AlwaysWalked}
 use Rattle.thm_blank.proofs.Moves.{Counted, still, ended}
+use Rattle.std.specs.Prelude.{Err, None, Ok, Option, Result, Some}
+use Rattle.target.specs.declared.views.Ended.{Ended}
+use Rattle.target.specs.declared.First.{First}
+use Rattle.target.specs.declared.Refusal.{Refusal}
 
 -- two definitions that pick by the same test
 by-pick-both : {A B : Type 0} (P : A → B → Type 0) (b : Bool) (x y : A) (u v : B) → (b ≡ true → P x u) → (b ≡ false → P y v)
@@ -88,18 +86,18 @@ module _ (g : Geometry) (words : Words) (flags : List ℕ) (luns : List Lun) (co
   readied l h = readied-leaves luns l (omega (arith, h, four)) ∙ so_far l h
 
   -- a first command
-  opened : (clear : Bool) (f : FirstFound) → Holds luns (first_work clear f)
+  opened : (clear : Bool) (f : Option First) → Holds luns (first_work clear f)
   unfolding counts_after
-  opened clear first.Nothing = unmoved luns work.Nothing (λ l. refl) refl
-  opened clear (first.Found f) =
+  opened clear None = unmoved luns work.Nothing (λ l. refl) refl
+  opened clear (Some f) =
       by-pick (Holds luns) (clears_register f && not clear) work.ClearAll work.Nothing (λ _. unmoved luns work.ClearAll (λ l. refl) refl) (λ _. unmoved luns work.Nothing (λ l. refl) refl)
 
   -- a second command
-  by-ender : (k : Ender) → EnderReaches g k
+  by-ender : (k : Option Ended) → EnderReaches g k
       → Holds (ended_luns g luns k (ended_findings g words k counts flags)) (ended_work k (ended_findings g words k counts flags))
   unfolding EnderReaches counts_after
-  by-ender ender.Nothing there = unmoved luns work.Nothing (λ l. refl) refl
-  by-ender (ender.By k) there =
+  by-ender None there = unmoved luns work.Nothing (λ l. refl) refl
+  by-ender (Some k) there =
       ended g words flags luns counts four all full so_far (second_row k.second).act (second_row k.second).starts (moving-starts k.second)
       k.row (second_row k.second).opens (end_closes k) there
 
@@ -116,20 +114,20 @@ module _ (g : Geometry) (words : Words) (flags : List ℕ) (luns : List Lun) (co
   commanded clear (Setting k) v h = by-ender (ending (Setting k) v) (ender-reaches g (Setting k) v h)
 
   -- an address: a row may close a copyback, and no count moves
-  address-counts : (clear : Bool) (k : Given) → counts_after g (address_work g clear k) counts ≡ counts
+  address-counts : (clear : Bool) (k : Option Given) → counts_after g (address_work g clear k) counts ≡ counts
   unfolding counts_after
-  address-counts clear given.Nothing = refl
-  address-counts clear (given.Column k) = refl
-  address-counts clear (given.Row k) =
+  address-counts clear None = refl
+  address-counts clear (Some (given.Column k)) = refl
+  address-counts clear (Some (given.Row k)) =
       by-pick (λ (w : Work). counts_after g w counts ≡ counts) (clears_register k.first && clear) (work.ClearOne (lun_of g k.row)) work.Nothing
       (λ _. refl) (λ _. refl)
-  address-counts clear (given.Single k) = refl
+  address-counts clear (Some (given.Single k)) = refl
 
-  data-counts : (k : Taker) (v : ℕ) → counts_after g (data_work g k v) counts ≡ counts
+  data-counts : (k : Option Taker) (v : ℕ) → counts_after g (data_work g k v) counts ≡ counts
   unfolding counts_after
-  data-counts taker.Nothing v = refl
-  data-counts (taker.Program k) v = refl
-  data-counts (taker.Feature k) v = refl
+  data-counts None v = refl
+  data-counts (Some (taker.Program k)) v = refl
+  data-counts (Some (taker.Feature k)) v = refl
 
   no-counts : counts_after g work.Nothing counts ≡ counts
   unfolding counts_after
@@ -165,15 +163,15 @@ module _ (g : Geometry) (luns : List Lun) (all : length luns ≡ 4) where
   stored : (i : ℕ) (x : Lun) → Four (set luns i x)
   stored i x = length-set luns i x ∙ all
 
-  ended-four : (k : Ender) (found : Findings) → Four (ended_luns g luns k found)
-  ended-four ender.Nothing found = all
-  ended-four (ender.By k) found = by-pick Four (second_row k.second).starts _ _ (λ _. stored (lun_of g k.row) _) (λ _. all)
+  ended-four : (k : Option Ended) (found : Findings) → Four (ended_luns g luns k found)
+  ended-four None found = all
+  ended-four (Some k) found = by-pick Four (second_row k.second).starts _ _ (λ _. stored (lun_of g k.row) _) (λ _. all)
 
-  addressed-four : (k : Given) → Four (addressed_luns g luns k)
-  addressed-four given.Nothing = all
-  addressed-four (given.Column k) = all
-  addressed-four (given.Row k) = by-pick Four (closes_copyback k.first) _ _ (λ _. stored (lun_of g k.row) _) (λ _. all)
-  addressed-four (given.Single k) = all
+  addressed-four : (k : Option Given) → Four (addressed_luns g luns k)
+  addressed-four None = all
+  addressed-four (Some (given.Column k)) = all
+  addressed-four (Some (given.Row k)) = by-pick Four (closes_copyback k.first) _ _ (λ _. stored (lun_of g k.row) _) (λ _. all)
+  addressed-four (Some (given.Single k)) = all
 
   pub still-four : (s : Sequence) (e : Event) (found : Findings) → Four (luns_after g luns s e found)
   unfolding luns_after
@@ -189,9 +187,9 @@ pub record Standing (t : Target) (b : Buffers) (flags : List ℕ) : Type 0 where
   pub numbers : Walked t b.counts flags
 
 module _ (t : Target) (e : Event) (params : List ℕ) (b : Buffers) (flags : List ℕ) (h : lets_pass t params b flags ≡ true) (k : Standing t b flags) where
-  by-verdict : (v : Verdict) → Standing (by_verdict v t e params b flags).target (by_verdict v t e params b flags).buffers flags
+  by-verdict : (v : Result Unit Refusal) → Standing (by_verdict v t e params b flags).target (by_verdict v t e params b flags).buffers flags
   unfolding by_verdict accepted accepted_by target_after target_refused worked
-  by-verdict verdicts.Accepted =
+  by-verdict (Ok tt) =
       let u = passes t params b.array b.registers b.counts flags h in
       let g = t.geometry in
       let sane = sound t u.record-sound in
@@ -201,7 +199,7 @@ module _ (t : Target) (e : Event) (params : List ℕ) (b : Buffers) (flags : Lis
         numbers = by_kind g t.words flags t.luns b.counts (limits g sane.limited).luns-max k.four u.sizes.counts-size
             k.numbers t.clear t.decoder.sequence e sane.sequence found refl;
       }
-  by-verdict (verdicts.Refused r) = record { four = k.four; numbers = k.numbers }
+  by-verdict (Err r) = record { four = k.four; numbers = k.numbers }
 
   steady-stands : Standing (steady t e params b flags).target (steady t e params b flags).buffers flags
   unfolding steady

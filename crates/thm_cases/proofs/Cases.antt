@@ -1,6 +1,7 @@
 -- The table of document 01's cases, computed from the two parts' pages on: power-on once for each part, and every run from the record
 -- that it makes.
 -- Assumes nothing.
+use Rattle.std.specs.Prelude.{Err, Ok}
 use mathlib.Core.Path.{◌≡◌, refl, sym, ap, subst, ◌∙◌}
 use mathlib.Core.Bool.{true, false, ◌&&◌}
 use mathlib.Core.List.{List, [], ◌∷◌}
@@ -33,11 +34,10 @@ use Rattle.step.specs.Buffers.{registers_after, array_after, counts_after, findi
 use Rattle.step.specs.Step.{Buffers, Outcome, reply_of, worked, accepted_by, accepted, by_verdict, steady, step_of}
 use Rattle.page.specs.Page.{field, bit_of as page_bit, signed, features, optional_commands, maker_id, data_bytes, spare_bytes, pages_a_block, blocks_a_lun, lun_count, address_cycles, programs_a_page, stored_crc, crc_good, data_in_limits, spare_in_limits, pages_in_limits, blocks_in_limits, luns_in_limits, luns_as_featured, narrow_bus, cycles_as_house, programs_in_limits, fields_in_limits}
 use Rattle.power.specs.Power.{geometry_of, words_of, walked, powered_of, wrong_length, unsigned, crc_bad, field_bad, buffer_bad, content_bad, or_refused, power_answer, Powering, power_number, power_of}
-use Rattle.power.specs.declared.PowerAnswer.TheVariants.{Accepted}
 use Rattle.thm_kept.specs.Kept.{lets_pass}
 use Rattle.thm_kept.proofs.Kept.{step-usable, step-steady}
 use Rattle.trace.specs.Run.{Running, Traced, run_number, traced, start, next_of, written, one_more, ran_all, events_of, stands_usable, odd_answered, needed, trace_of}
-use Rattle.trace.specs.declared.RunAnswer.TheVariants.{Done, NoRoom}
+use Rattle.trace.specs.declared.RunRefusal.TheVariants.{NoRoom}
 use Rattle.thm_cases.specs.Parts.{Part, t1_with, t1, t2, powered, first, run}
 use Rattle.thm_cases.specs.Cases.{geometry, Begun, Cases}
 
@@ -72,7 +72,7 @@ fresh p = record { array = p.array; registers = replicate 1056 0xff; counts = p.
 
 -- power-on accepts the part, makes this record of it and fills its registers; rule 13 lets them pass
 pub record Starts (p : Part) (t : Target) : Type 0 where
-  pub on : powered p ≡ record { answer = Accepted; target = t; registers = replicate 1056 0xff }
+  pub on : powered p ≡ record { answer = (Ok tt); target = t; registers = replicate 1056 0xff }
   pub passes : lets_pass t p.params (fresh p) p.flags ≡ true
 
 pub starts-1 : (byte : ℕ) → Starts (t1_with byte 0) (readied 4 8 8 8)
@@ -108,8 +108,8 @@ module _ {p : Part} {t : Target} (s : Starts p t) where
   abbrev Ran : ℕ → List ℕ → Traced
   Ran n records =
       let begun = start t (fresh p) (replicate n 0) in
-      pick (ltb (length begun.room) (needed (length records))) (traced NoRoom begun)
-      (traced Done (odd_answered p.params p.flags (length records) (steadily p.params p.flags (events_of records) begun)))
+      pick (ltb (length begun.room) (needed (length records))) (traced (Err NoRoom) begun)
+      (traced (Ok tt) (odd_answered p.params p.flags (length records) (steadily p.params p.flags (events_of records) begun)))
 
   ran : (n : ℕ) (records : List ℕ)
       → trace_of (first p).target records (replicate n 0) p.params (first p).buffers p.flags ≡ Ran n records
@@ -118,8 +118,8 @@ module _ {p : Part} {t : Target} (s : Starts p t) where
       let begun = start t (fresh p) (replicate n 0) in
       ap (λ (w : Powering). trace_of w.target records (replicate n 0) p.params
       (record { array = p.array; registers = w.registers; counts = p.counts }) p.flags) s.on
-      ∙ ap (λ (r : Running). pick (ltb (length begun.room) (needed (length records))) (traced NoRoom begun)
-      (traced Done (odd_answered p.params p.flags (length records) r)))
+      ∙ ap (λ (r : Running). pick (ltb (length begun.room) (needed (length records))) (traced (Err NoRoom) begun)
+      (traced (Ok tt) (odd_answered p.params p.flags (length records) r)))
       (ran-steadily p.params p.flags (events_of records) begun s.passes)
 
   pub tells : (records told : List ℕ) → (Ran (length records) records).room ≡ told → (run p records).room ≡ told

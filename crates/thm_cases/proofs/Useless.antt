@@ -10,8 +10,6 @@ use Rattle.target.specs.Commands.{row_of, first_of, second_of, second_row, class
 use Rattle.target.specs.Place.{is_open}
 use Rattle.target.specs.declared.Event.{Event}
 use Rattle.target.specs.declared.Target.{Target}
-use Rattle.target.specs.declared.Verdict.{Verdict}
-use Rattle.target.specs.declared.Verdict.TheVariants as verdicts
 use Rattle.target.specs.declared.Reply.TheVariants as reply
 use Rattle.blocks.specs.Blocks.{page_index}
 use Rattle.step.specs.Buffers.{counts_after}
@@ -25,6 +23,8 @@ use Rattle.thm_kept.proofs.Kept.{step-usable, step-steady}
 use Rattle.thm_cases.specs.Parts.{t1}
 use Rattle.thm_cases.specs.Useless.{reset_command, reached, NotRefusedAlways, Useful}
 use Rattle.thm_cases.proofs.Cases.{computes, steadily, starts-1, tells, leaves-array, leaves-counts, cases}
+use Rattle.std.specs.Prelude.{Ok, Result}
+use Rattle.target.specs.declared.Refusal.{Refusal}
 
 -- rule 13 lets pass wherever a run stands
 ran-passes : (params flags : List ℕ) (es : List Event) (s : Running) → lets_pass s.target params s.buffers flags ≡ true
@@ -34,11 +34,11 @@ ran-passes params flags [] s h = h
 ran-passes params flags (e ∷ es) s h = ran-passes params flags es (one_more params flags s e) (step-usable s.target e params s.buffers flags h)
 
 -- and there FFh meets no rule
-reset-verdict : (t : Target) → verdict t reset_command ≡ verdicts.Accepted
+reset-verdict : (t : Target) → verdict t reset_command ≡ (Ok tt)
 unfolding or_else before_reset unknown row_of first_of second_of second_row class_of offered misplaced fits others_busy line_low
 reset-verdict t = command-verdict t 0xff ∙ (rw (or-true (is_open t.decoder.sequence && false)))
 
-by-verdict : (t : Target) (params : List ℕ) (b : Buffers) (flags : List ℕ) (v : Verdict) → v ≡ verdicts.Accepted
+by-verdict : (t : Target) (params : List ℕ) (b : Buffers) (flags : List ℕ) (v : Result Unit Refusal) → v ≡ (Ok tt)
     → (by_verdict v t reset_command params b flags).reply ≡ reply.Accepted
 unfolding by_verdict accepted accepted_by reply_of
 by-verdict t params b flags v h = rw (h)

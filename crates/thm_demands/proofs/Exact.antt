@@ -16,14 +16,13 @@ use Rattle.target.specs.declared.Refusal.{Refusal}
 use Rattle.target.specs.declared.Refusal.TheVariants.{Unknown, BeforeReset, Misplaced, OutOfRange, LunWorks, OthersWork, Protected, PastEnd, NotOffered, NotWorking, LineHeld, BadRecord, NotUsable, NoCopyback}
 use Rattle.target.specs.declared.Reply.{Reply}
 use Rattle.target.specs.declared.Reply.TheVariants as reply
-use Rattle.target.specs.declared.Verdict.{Verdict}
-use Rattle.target.specs.declared.Verdict.TheVariants as verdicts
 use Rattle.target.proofs.Both.{both}
 use Rattle.rules.specs.Rules.{Rule, rules, first_holding, verdict}
 use Rattle.step.specs.Usable.{usable}
 use Rattle.step.specs.Step.{Buffers, reply_of, accepted_by, accepted, by_verdict, steady, step_of}
 use Rattle.thm_kept.proofs.Choice.{by-pick}
 use Rattle.thm_demands.specs.Exact.{rules_of, numbers, speaks, silent, Exact}
+use Rattle.std.specs.Prelude.{Err, Ok, Result}
 
 -- two constructors are never equal
 apart : ◌≡◌ {A = ℕ} 0 1 → ⊥
@@ -78,14 +77,14 @@ not-true-twice true h k = false≢true h
 not-true-twice false h k = false≢true k
 
 -- the first that holds is the one that speaks
-to-speaks : (q : Refusal) (rs : List Rule) → distinct rs ≡ true → first_holding rs ≡ verdicts.Refused q → speaks q rs ≡ true
+to-speaks : (q : Refusal) (rs : List Rule) → distinct rs ≡ true → first_holding rs ≡ Err q → speaks q rs ≡ true
 unfolding distinct or_else
 to-speaks q [] d h = absurd (apart (cc))
 to-speaks q (r ∷ rs) d h =
     let p = both (not (listed r.gives rs)) (distinct rs) d in
     by p.0 (λ k. to-speaks q rs p.1 k) r.holds h (eqb (number_of r.gives) (number_of q)) refl
   where
-    by : not (listed r.gives rs) ≡ true → (first_holding rs ≡ verdicts.Refused q → speaks q rs ≡ true) → (b : Bool) → pick b (verdicts.Refused r.gives) (first_holding rs) ≡ verdicts.Refused q → (s : Bool) → eqb (number_of r.gives) (number_of q) ≡ s → pick s b (not b && speaks q rs) ≡ true
+    by : not (listed r.gives rs) ≡ true → (first_holding rs ≡ Err q → speaks q rs ≡ true) → (b : Bool) → pick b (Err r.gives) (first_holding rs) ≡ Err q → (s : Bool) → eqb (number_of r.gives) (number_of q) ≡ s → pick s b (not b && speaks q rs) ≡ true
     by alone ih true k true e = refl
     by alone ih true k false e =
         let is : r.gives ≡ q = cc in
@@ -95,42 +94,42 @@ to-speaks q (r ∷ rs) d h =
         absurd (not-true-twice (listed r.gives rs) alone (subst (λ (x : Refusal). listed x rs ≡ true) (sym (same r.gives q e)) later))
     by alone ih false k false e = ih k
 
-from-speaks : (q : Refusal) (rs : List Rule) → speaks q rs ≡ true → first_holding rs ≡ verdicts.Refused q
+from-speaks : (q : Refusal) (rs : List Rule) → speaks q rs ≡ true → first_holding rs ≡ Err q
 unfolding or_else
 from-speaks q [] h = absurd (false≢true h)
 from-speaks q (r ∷ rs) h = by (λ k. from-speaks q rs k) r.holds (eqb (number_of r.gives) (number_of q)) refl h
   where
-    by : (speaks q rs ≡ true → first_holding rs ≡ verdicts.Refused q) → (b s : Bool) → eqb (number_of r.gives) (number_of q) ≡ s → pick s b (not b && speaks q rs) ≡ true → pick b (verdicts.Refused r.gives) (first_holding rs) ≡ verdicts.Refused q
-    by ih true true e k = ap verdicts.Refused (same r.gives q e)
+    by : (speaks q rs ≡ true → first_holding rs ≡ Err q) → (b s : Bool) → eqb (number_of r.gives) (number_of q) ≡ s → pick s b (not b && speaks q rs) ≡ true → pick b (Err r.gives) (first_holding rs) ≡ Err q
+    by ih true true e k = ap Err (same r.gives q e)
     by ih true false e k = absurd (false≢true k)
     by ih false true e k = absurd (false≢true k)
     by ih false false e k = ih k
 
-silent-first : (rs : List Rule) → silent rs ≡ true → first_holding rs ≡ verdicts.Accepted
+silent-first : (rs : List Rule) → silent rs ≡ true → first_holding rs ≡ (Ok tt)
 unfolding or_else
 silent-first [] h = refl
 silent-first (r ∷ rs) h = by (λ k. silent-first rs k) r.holds h
   where
-    by : (silent rs ≡ true → first_holding rs ≡ verdicts.Accepted) → (b : Bool) → (not b && silent rs) ≡ true → pick b (verdicts.Refused r.gives) (first_holding rs) ≡ verdicts.Accepted
+    by : (silent rs ≡ true → first_holding rs ≡ (Ok tt)) → (b : Bool) → (not b && silent rs) ≡ true → pick b (Err r.gives) (first_holding rs) ≡ (Ok tt)
     by ih true k = absurd (false≢true k)
     by ih false k = ih k
 
-loud-first : (rs : List Rule) → silent rs ≡ false → (q : Refusal) × (first_holding rs ≡ verdicts.Refused q)
+loud-first : (rs : List Rule) → silent rs ≡ false → (q : Refusal) × (first_holding rs ≡ Err q)
 unfolding or_else
 loud-first [] h = absurd (false≢true (sym h))
 loud-first (r ∷ rs) h = by (λ k. loud-first rs k) r.holds h
   where
-    by : (silent rs ≡ false → (q : Refusal) × (first_holding rs ≡ verdicts.Refused q)) → (b : Bool) → (not b && silent rs) ≡ false → (q : Refusal) × (pick b (verdicts.Refused r.gives) (first_holding rs) ≡ verdicts.Refused q)
+    by : (silent rs ≡ false → (q : Refusal) × (first_holding rs ≡ Err q)) → (b : Bool) → (not b && silent rs) ≡ false → (q : Refusal) × (pick b (Err r.gives) (first_holding rs) ≡ Err q)
     by ih true k = (r.gives, refl)
     by ih false k = ih k
 
 -- a refusal that is not listed is never given
-not-given : (q : Refusal) (rs : List Rule) → listed q rs ≡ false → first_holding rs ≡ verdicts.Refused q → ⊥
+not-given : (q : Refusal) (rs : List Rule) → listed q rs ≡ false → first_holding rs ≡ Err q → ⊥
 unfolding listed or_else
 not-given q [] l h = apart (cc)
 not-given q (r ∷ rs) l h = by (λ z k. not-given q rs z k) r.holds h (eqb (number_of r.gives) (number_of q)) refl l
   where
-    by : (listed q rs ≡ false → first_holding rs ≡ verdicts.Refused q → ⊥) → (b : Bool) → pick b (verdicts.Refused r.gives) (first_holding rs) ≡ verdicts.Refused q → (s : Bool) → eqb (number_of r.gives) (number_of q) ≡ s → pick s true (listed q rs) ≡ false → ⊥
+    by : (listed q rs ≡ false → first_holding rs ≡ Err q → ⊥) → (b : Bool) → pick b (Err r.gives) (first_holding rs) ≡ Err q → (s : Bool) → eqb (number_of r.gives) (number_of q) ≡ s → pick s true (listed q rs) ≡ false → ⊥
     by ih b k true e z = false≢true (sym z)
     by ih true k false e z =
         let is : r.gives ≡ q = cc in
@@ -138,14 +137,14 @@ not-given q (r ∷ rs) l h = by (λ z k. not-given q rs z k) r.holds h (eqb (num
     by ih false k false e z = ih z k
 
 -- the rules after 13 never give 13
-pub never-13 : (t : Target) (e : Event) → verdict t e ≡ verdicts.Refused NotUsable → ⊥
+pub never-13 : (t : Target) (e : Event) → verdict t e ≡ Err NotUsable → ⊥
 unfolding verdict rules listed
 never-13 t e h = not-given NotUsable (rules t e) refl h
 
 module _ (t : Target) (e : Event) (page : List ℕ) (b : Buffers) (flags : List ℕ) where
   -- the reply of a verdict
-  abbrev Says : Verdict → Reply → Type 0
-  Says v a = (q : Refusal) → ((v ≡ verdicts.Refused q → a ≡ reply.Refused q) × (a ≡ reply.Refused q → v ≡ verdicts.Refused q))
+  abbrev Says : Result Unit Refusal → Reply → Type 0
+  Says v a = (q : Refusal) → ((v ≡ Err q → a ≡ reply.Refused q) × (a ≡ reply.Refused q → v ≡ Err q))
 
   no-refusal : (q : Refusal) → reply_of t e page b.registers ≡ reply.Refused q → ⊥
   unfolding reply_of
@@ -155,16 +154,16 @@ module _ (t : Target) (e : Event) (page : List ℕ) (b : Buffers) (flags : List 
       (λ _ k. apart (cc))
       h
 
-  verdict-says : (v : Verdict) → Says v (by_verdict v t e page b flags).reply
+  verdict-says : (v : Result Unit Refusal) → Says v (by_verdict v t e page b flags).reply
   unfolding by_verdict accepted accepted_by
-  verdict-says verdicts.Accepted q = (λ h. absurd (apart (cc)), λ h. absurd (no-refusal q h))
-  verdict-says (verdicts.Refused r) q = (λ h. let is : r ≡ q = cc in ap reply.Refused is, λ h. let is : r ≡ q = cc in ap verdicts.Refused is)
+  verdict-says (Ok tt) q = (λ h. absurd (apart (cc)), λ h. absurd (no-refusal q h))
+  verdict-says (Err r) q = (λ h. let is : r ≡ q = cc in ap reply.Refused is, λ h. let is : r ≡ q = cc in ap Err is)
 
   -- the step's reply is the first rule's, rule 13 included
   says : (ok : Bool) → Says (or_else (not ok) NotUsable (verdict t e)) (pick ok (steady t e page b flags) (record { reply = reply.Refused NotUsable; target = t; buffers = b })).reply
   unfolding or_else steady
   says true q = verdict-says (verdict t e) q
-  says false q = (λ h. let is : NotUsable ≡ q = cc in ap reply.Refused is, λ h. let is : NotUsable ≡ q = cc in ap verdicts.Refused is)
+  says false q = (λ h. let is : NotUsable ≡ q = cc in ap reply.Refused is, λ h. let is : NotUsable ≡ q = cc in ap Err is)
 
   step-says : Says (first_holding (rules_of t e page b flags)) (step_of t e page b flags).reply
   unfolding rules_of step_of verdict
@@ -185,6 +184,6 @@ module _ (t : Target) (e : Event) (page : List ℕ) (b : Buffers) (flags : List 
         order = in_order;
         only_then = λ q h. to-speaks q rs all-distinct ((step-says q).1 h);
         always-then = λ q h. (step-says q).0 (from-speaks q rs h);
-        else-accepted = λ h q k. let z : verdicts.Accepted ≡ verdicts.Refused q = sym (silent-first rs h) ∙ (step-says q).1 k in apart (cc);
+        else-accepted = λ h q k. let z : (Ok tt) ≡ Err q = sym (silent-first rs h) ∙ (step-says q).1 k in apart (cc);
         or-refused = λ h. let l = loud-first rs h in (l.0, (step-says l.0).0 l.1);
       }

@@ -1,5 +1,6 @@
 -- 16, 20 to 25 and the odd byte, as specs/Numbered.antt states them.
 -- Assumes nothing.
+use Rattle.std.specs.Prelude.{Result, Ok, Err}
 use mathlib.Core.Path.{◌≡◌, refl, sym, ap, ◌∙◌}
 use mathlib.Core.Bool.{Bool, true, false}
 use mathlib.Core.List.{List}
@@ -14,26 +15,23 @@ use Rattle.target.specs.declared.Refusal.TheVariants.{BadRecord, NotUsable}
 use Rattle.target.specs.declared.Reply.TheVariants as reply
 use Rattle.power.specs.declared.PowerRefusal.{PowerRefusal}
 use Rattle.power.specs.declared.PowerRefusal.TheVariants.{PageLength, Signature, Crc, Field, BufferLength, Content}
-use Rattle.power.specs.declared.PowerAnswer.{PowerAnswer}
-use Rattle.power.specs.declared.PowerAnswer.TheVariants as power
 use Rattle.power.specs.Power.{power_number, wrong_length, unsigned, crc_bad, field_bad, buffer_bad, content_bad, or_refused, power_answer, powering, power_of}
 use Rattle.step.specs.Step.{Buffers}
-use Rattle.trace.specs.declared.RunAnswer.TheVariants as answer
 use Rattle.trace.specs.Run.{run_number, Running, Traced, written, stands_usable, odd_answered, needed, traced, trace_of, batch_of}
 use Rattle.thm_kept.specs.Kept.{lets_pass}
 use Rattle.thm_demands.specs.Numbered.{PowerExact, TraceRoom, BatchRoom, unchanged, TraceRefused, BatchRefused, ran, OddByte, NoOddByte}
 
 -- Power-on.
 
-number-or : (b : Bool) (r : PowerRefusal) (a : PowerAnswer) (n : ℕ) → power_number a ≡ n → power_number (or_refused b r a) ≡ pick b (power_number (power.Refused r)) n
+number-or : (b : Bool) (r : PowerRefusal) (a : Result Unit PowerRefusal) (n : ℕ) → power_number a ≡ n → power_number (or_refused b r a) ≡ pick b (power_number (Err r)) n
 unfolding or_refused
 number-or true r a n h = refl
 number-or false r a n h = h
 
-answered : (a : PowerAnswer) (page : List ℕ) (device : ℕ) (registers counts flags : List ℕ)
+answered : (a : Result Unit PowerRefusal) (page : List ℕ) (device : ℕ) (registers counts flags : List ℕ)
     → (powering a page device registers counts flags).answer ≡ a
-answered power.Accepted page device registers counts flags = refl
-answered (power.Refused r) page device registers counts flags = refl
+answered (Ok tt) page device registers counts flags = refl
+answered (Err r) page device registers counts flags = refl
 
 pub power-exact : PowerExact
 unfolding power_of power_answer
@@ -44,7 +42,7 @@ power-exact page device array registers counts flags =
     (number-or (crc_bad page) Crc _ _
     (number-or (field_bad page) Field _ _
     (number-or (buffer_bad page (length array) (length registers) (length counts) (length flags)) BufferLength _ _
-    (number-or (content_bad page counts flags) Content power.Accepted 0 refl)))))
+    (number-or (content_bad page counts flags) Content (Ok tt) 0 refl)))))
 
 -- Reply room.
 
@@ -87,10 +85,10 @@ one_reply params flags s = record {
 }
 
 room-there : (t : Target) (records room params : List ℕ) (b : Buffers) (flags : List ℕ) → ltb (length room) (length records + length records % 2) ≡ false
-    → trace_of t records room params b flags ≡ traced answer.Done (odd_answered params flags (length records) (ran t records room params b flags))
+    → trace_of t records room params b flags ≡ traced (Ok tt) (odd_answered params flags (length records) (ran t records room params b flags))
 unfolding trace_of needed
 room-there t records room params b flags h =
-    ap (λ (x : Bool). pick x (unchanged t b room) (traced answer.Done (odd_answered params flags (length records) (ran t records room params b flags)))) h
+    ap (λ (x : Bool). pick x (unchanged t b room) (traced (Ok tt) (odd_answered params flags (length records) (ran t records room params b flags)))) h
 
 odd-there : (params flags : List ℕ) (n : ℕ) (s : Running) (x : Bool) → eqb (n % 2) 1 ≡ x → odd_answered params flags n s ≡ pick x (one_reply params flags s) s
 unfolding odd_answered
@@ -104,12 +102,12 @@ odd_byte t records room params b flags s at there odd =
       (
         number-pick stands,
         room-there t records room params b flags there
-            ∙ ap (λ (x : Running). traced answer.Done (odd_answered params flags (length records) x)) (sym at)
-            ∙ ap (traced answer.Done) (odd-there params flags (length records) s true odd),
+            ∙ ap (λ (x : Running). traced (Ok tt) (odd_answered params flags (length records) x)) (sym at)
+            ∙ ap (traced (Ok tt)) (odd-there params flags (length records) s true odd),
       ),
     )
 
 pub no-odd-byte : NoOddByte
 no-odd-byte t records room params b flags there even =
     room-there t records room params b flags there
-    ∙ ap (traced answer.Done) (odd-there params flags (length records) (ran t records room params b flags) false even)
+    ∙ ap (traced (Ok tt)) (odd-there params flags (length records) (ran t records room params b flags) false even)

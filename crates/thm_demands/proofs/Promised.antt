@@ -1,5 +1,6 @@
 -- Demand 1 and the soundness of rule 13, as specs/Promises.antt states them.
 -- Assumes nothing.
+use Rattle.std.specs.Prelude.{Result, Ok, Err}
 use mathlib.Core.Path.{◌≡◌, refl, sym, ap, subst, ◌∙◌}
 use mathlib.Core.Bool.{Bool, true, false, ◌&&◌, ◌||◌, not, false≢true}
 use mathlib.Core.List.{List, [], ◌∷◌}
@@ -28,16 +29,10 @@ use Rattle.target.specs.declared.Second.{Second}
 use Rattle.target.specs.declared.Second.TheVariants.{StartRead, StartOutput, StartProgram, StartErase, Move, StartCopyback}
 use Rattle.target.specs.declared.commands.Act.{Act}
 use Rattle.target.specs.declared.commands.Act.TheVariants as act
-use Rattle.target.specs.declared.commands.FirstFound.{FirstFound}
-use Rattle.target.specs.declared.commands.FirstFound.TheVariants as first
-use Rattle.target.specs.declared.commands.SecondFound.{SecondFound}
-use Rattle.target.specs.declared.commands.SecondFound.TheVariants as second
 use Rattle.target.specs.declared.views.Given.{Given}
 use Rattle.target.specs.declared.views.Given.TheVariants as given
 use Rattle.target.specs.declared.views.Taker.{Taker}
 use Rattle.target.specs.declared.views.Taker.TheVariants as taker
-use Rattle.target.specs.declared.views.Ender.{Ender}
-use Rattle.target.specs.declared.views.Ender.TheVariants as ender
 use Rattle.target.specs.declared.Sequence.{Sequence}
 use Rattle.target.specs.declared.Sequence.TheVariants.{Idle, Columns, Rows, Single, Due, Filling, Moving, Setting}
 use Rattle.target.specs.declared.Output.TheVariants as output
@@ -45,8 +40,6 @@ use Rattle.target.specs.declared.Refusal.{Refusal}
 use Rattle.target.specs.declared.Refusal.TheVariants as refusal
 use Rattle.target.specs.declared.Reply.{Reply}
 use Rattle.target.specs.declared.Reply.TheVariants as reply
-use Rattle.target.specs.declared.Verdict.{Verdict}
-use Rattle.target.specs.declared.Verdict.TheVariants as verdicts
 use Rattle.target.specs.declared.Work.{Work}
 use Rattle.target.specs.declared.Work.TheVariants as work
 use Rattle.target.proofs.Both.{both, other}
@@ -59,8 +52,6 @@ use Rattle.lun_records.specs.LunsAfter.{luns_after}
 use Rattle.page.specs.Page.{fields_in_limits}
 use Rattle.power.specs.Power.{geometry_of, walked, luns_found, powered_of, unpowered, wrong_length, buffer_bad, power_answer, powering, power_of}
 use Rattle.power.specs.declared.PowerRefusal.{PowerRefusal}
-use Rattle.power.specs.declared.PowerAnswer.{PowerAnswer}
-use Rattle.power.specs.declared.PowerAnswer.TheVariants as power
 use Rattle.power.proofs.Answers.{all-passed as all-power-passed, limited, worded, accepted-limited}
 use Rattle.blocks.specs.Blocks.{blank_block, blanks_from, blank_blocks}
 use Rattle.step.specs.Usable.{marks_sound, record_sound, usable}
@@ -73,6 +64,8 @@ use Rattle.thm_demands.specs.Runs.{step_at, left, after, powered_up}
 use Rattle.thm_demands.specs.Exact.{rules_of}
 use Rattle.thm_demands.proofs.Exact.{by_number, never-13, exact}
 use Rattle.thm_demands.specs.Promises.{dropped, RefusedCycle, BadChangesNothing, RefusedBench, RefusedPower, Preserved, LineLow, low_through, LineLowRun, reset, ResetReadies, NeverUnusable}
+use Rattle.std.specs.Prelude.{Err, None, Ok, Option, Result, Some}
+use Rattle.target.specs.declared.views.Ended.{Ended}
 
 -- two constructors are never equal
 apart : ◌≡◌ {A = ℕ} 0 1 → ⊥
@@ -89,15 +82,15 @@ module _ (t : Target) (e : Event) (page : List ℕ) (b : Buffers) (flags : List 
       h
 
   -- what a refusal of each kind leaves
-  refused-by : (v : Verdict) (r : Refusal) → (by_verdict v t e page b flags).reply ≡ reply.Refused r → (v ≡ verdicts.Refused r) × (by_verdict v t e page b flags ≡ record { reply = reply.Refused r; target = target_refused t e; buffers = b })
+  refused-by : (v : Result Unit Refusal) (r : Refusal) → (by_verdict v t e page b flags).reply ≡ reply.Refused r → (v ≡ Err r) × (by_verdict v t e page b flags ≡ record { reply = reply.Refused r; target = target_refused t e; buffers = b })
   unfolding by_verdict accepted accepted_by
-  refused-by verdicts.Accepted r h = absurd (not-refused r h)
-  refused-by (verdicts.Refused q) r h =
+  refused-by (Ok tt) r h = absurd (not-refused r h)
+  refused-by (Err q) r h =
       let same : q ≡ r = cc in
-      (ap verdicts.Refused same, ap (λ (x : Refusal). record { reply = reply.Refused x; target = target_refused t e; buffers = b }) same)
+      (ap Err same, ap (λ (x : Refusal). record { reply = reply.Refused x; target = target_refused t e; buffers = b }) same)
 
   by-usable : (ok : Bool) (r : Refusal) → (pick ok (steady t e page b flags) (record { reply = reply.Refused refusal.NotUsable; target = t; buffers = b })).reply ≡ reply.Refused r
-      → ((ok ≡ true) × (verdict t e ≡ verdicts.Refused r) × (pick ok (steady t e page b flags) (record { reply = reply.Refused refusal.NotUsable; target = t; buffers = b }) ≡ record { reply = reply.Refused r; target = target_refused t e; buffers = b }))
+      → ((ok ≡ true) × (verdict t e ≡ Err r) × (pick ok (steady t e page b flags) (record { reply = reply.Refused refusal.NotUsable; target = t; buffers = b }) ≡ record { reply = reply.Refused r; target = target_refused t e; buffers = b }))
       ⊎ ((r ≡ refusal.NotUsable) × (pick ok (steady t e page b flags) (record { reply = reply.Refused refusal.NotUsable; target = t; buffers = b }) ≡ record { reply = reply.Refused r; target = t; buffers = b }))
   unfolding steady
   by-usable true r h = let p = refused-by (verdict t e) r h in inl (refl, p.0, p.1)
@@ -107,13 +100,13 @@ module _ (t : Target) (e : Event) (page : List ℕ) (b : Buffers) (flags : List 
 
   -- the two ways of a refusal, of the step itself
   refused : (r : Refusal) → (step_of t e page b flags).reply ≡ reply.Refused r
-      → ((verdict t e ≡ verdicts.Refused r) × (step_of t e page b flags ≡ record { reply = reply.Refused r; target = target_refused t e; buffers = b }))
+      → ((verdict t e ≡ Err r) × (step_of t e page b flags ≡ record { reply = reply.Refused r; target = target_refused t e; buffers = b }))
       ⊎ ((r ≡ refusal.NotUsable) × (step_of t e page b flags ≡ record { reply = reply.Refused r; target = t; buffers = b }))
   unfolding step_of
   refused r h = ⊎_elim (λ p. inl (p.1, p.2)) (λ p. inr p) (by-usable (usable t (length page) (length b.array) (length b.registers) (length b.counts) (length flags)) r h)
 
   -- a record that is bad is refused so, whatever else holds
-  bad-first : bad_record e ≡ true → verdict t e ≡ verdicts.Refused refusal.BadRecord
+  bad-first : bad_record e ≡ true → verdict t e ≡ Err refusal.BadRecord
   unfolding verdict rules or_else
   bad-first h = rw (h)
 
@@ -158,7 +151,7 @@ module _ (t : Target) (e : Event) (page : List ℕ) (b : Buffers) (flags : List 
   good-record r h other usable-too =
       ⊎_elim
       (λ bad. absurd (⊎_elim
-      (λ p. let q : verdicts.Refused refusal.BadRecord ≡ verdicts.Refused r = sym (bad-first bad) ∙ p.0 in other (cc))
+      (λ p. let q : Err refusal.BadRecord ≡ Err r = sym (bad-first bad) ∙ p.0 in other (cc))
       (λ p. usable-too p.0)
       (refused r h)))
       (λ good. good)
@@ -181,7 +174,7 @@ bad-changes-nothing t e page b flags r h which =
     (λ (n : number_of r ≡ 13).
     let is = by_number r refusal.NotUsable n in
     ⊎_elim
-    (λ p. absurd (never-13 t e (p.0 ∙ ap verdicts.Refused is)))
+    (λ p. absurd (never-13 t e (p.0 ∙ ap Err is)))
     (λ p. p.1)
     (refused t e page b flags r h))
     which
@@ -193,10 +186,10 @@ pub refused-power : RefusedPower
 unfolding power_of
 refused-power page device array registers counts flags r h = by (power_answer page (length array) (length registers) counts flags) h
   where
-    by : (a : PowerAnswer) → (powering a page device registers counts flags).answer ≡ power.Refused r
-        → powering a page device registers counts flags ≡ record { answer = power.Refused r; target = unpowered; registers = registers }
-    by power.Accepted k = absurd (apart (cc))
-    by (power.Refused q) k = let is : q ≡ r = cc in ap (λ (x : PowerRefusal). record { answer = power.Refused x; target = unpowered; registers = registers }) is
+    by : (a : Result Unit PowerRefusal) → (powering a page device registers counts flags).answer ≡ Err r
+        → powering a page device registers counts flags ≡ record { answer = Err r; target = unpowered; registers = registers }
+    by (Ok tt) k = absurd (apart (cc))
+    by (Err q) k = let is : q ≡ r = cc in ap (λ (x : PowerRefusal). record { answer = Err x; target = unpowered; registers = registers }) is
 
 -- small laws of tests
 not-both : (a b c : Bool) → a ≡ true → c ≡ false → (a && b && not c) ≡ false → b ≡ false
@@ -257,11 +250,11 @@ acted-spares act.Program r found h = absurd (false≢true h)
 acted-spares act.Erase r found h = absurd (false≢true h)
 acted-spares act.Move r found h = refl
 
-found-spares : (k : SecondFound) (f : First) (c : Column) (r : Row) (found : Findings) → is_guarded k ≡ false → spares (ended_work (ended_with k f c r) found) ≡ true
-found-spares second.Nothing f c r found h = refl
-found-spares (second.Found s) f c r found h = acted-spares (second_row s).act r found (unguarded s h)
+found-spares : (k : Option Second) (f : First) (c : Column) (r : Row) (found : Findings) → is_guarded k ≡ false → spares (ended_work (ended_with k f c r) found) ≡ true
+found-spares None f c r found h = refl
+found-spares (Some s) f c r found h = acted-spares (second_row s).act r found (unguarded s h)
 
-ended-pick : (x : Bool) (k : Ender) (found : Findings) → spares (ended_work k found) ≡ true → spares (ended_work (pick x k ender.Nothing) found) ≡ true
+ended-pick : (x : Bool) (k : Option Ended) (found : Findings) → spares (ended_work k found) ≡ true → spares (ended_work (pick x k None) found) ≡ true
 ended-pick true k found h = h
 ended-pick false k found h = refl
 
@@ -277,27 +270,27 @@ ending-spares (Filling k) v found h =
 ending-spares (Moving k) v found h = refl
 ending-spares (Setting k) v found h = refl
 
-first-spares : (clear : Bool) (k : FirstFound) → spares (first_work clear k) ≡ true
-first-spares clear first.Nothing = refl
-first-spares clear (first.Found f) = spares-pick (clears_register f && not clear) work.ClearAll work.Nothing (λ _. refl) (λ _. refl)
+first-spares : (clear : Bool) (k : Option First) → spares (first_work clear k) ≡ true
+first-spares clear None = refl
+first-spares clear (Some f) = spares-pick (clears_register f && not clear) work.ClearAll work.Nothing (λ _. refl) (λ _. refl)
 
-address-spares : (g : Geometry) (clear : Bool) (k : Given) → spares (address_work g clear k) ≡ true
-address-spares g clear given.Nothing = refl
-address-spares g clear (given.Column k) = refl
-address-spares g clear (given.Row k) = spares-pick (clears_register k.first && clear) _ work.Nothing (λ _. refl) (λ _. refl)
-address-spares g clear (given.Single k) = refl
+address-spares : (g : Geometry) (clear : Bool) (k : Option Given) → spares (address_work g clear k) ≡ true
+address-spares g clear None = refl
+address-spares g clear (Some (given.Column k)) = refl
+address-spares g clear (Some (given.Row k)) = spares-pick (clears_register k.first && clear) _ work.Nothing (λ _. refl) (λ _. refl)
+address-spares g clear (Some (given.Single k)) = refl
 
-data-spares : (g : Geometry) (k : Taker) (v : ℕ) → spares (data_work g k v) ≡ true
-data-spares g taker.Nothing v = refl
-data-spares g (taker.Program k) v = refl
-data-spares g (taker.Feature k) v = refl
+data-spares : (g : Geometry) (k : Option Taker) (v : ℕ) → spares (data_work g k v) ≡ true
+data-spares g None v = refl
+data-spares g (Some (taker.Program k)) v = refl
+data-spares g (Some (taker.Feature k)) v = refl
 
 -- a command that is accepted with the line low is none that rule 7 guards
-low-command : (t : Target) (e : Event) → verdict t e ≡ verdicts.Accepted → eqb e.kind 0 ≡ true → t.high ≡ false → is_guarded (second_of e.value) ≡ false
+low-command : (t : Target) (e : Event) → verdict t e ≡ Ok tt → eqb e.kind 0 ≡ true → t.high ≡ false → is_guarded (second_of e.value) ≡ false
 unfolding line_low
 low-command t e h k low = not-both (eqb e.kind 0) (is_guarded (second_of e.value)) t.high k low (all-passed t e h).rule-7
 
-low-spares : (t : Target) (e : Event) (found : Findings) → verdict t e ≡ verdicts.Accepted → t.high ≡ false → spares (work_of t.geometry t.clear t.decoder.sequence e found) ≡ true
+low-spares : (t : Target) (e : Event) (found : Findings) → verdict t e ≡ Ok tt → t.high ≡ false → spares (work_of t.geometry t.clear t.decoder.sequence e found) ≡ true
 unfolding work_of
 low-spares t e found h low =
     let g = t.geometry in
@@ -316,10 +309,10 @@ same-buffers : (b : Buffers) → Preserved b b
 same-buffers b = record { array = refl; counts = refl }
 
 module _ (t : Target) (e : Event) (page : List ℕ) (b : Buffers) (flags : List ℕ) (low : t.high ≡ false) where
-  low-verdict : (v : Verdict) → verdict t e ≡ v → Preserved b (by_verdict v t e page b flags).buffers
+  low-verdict : (v : Result Unit Refusal) → verdict t e ≡ v → Preserved b (by_verdict v t e page b flags).buffers
   unfolding by_verdict accepted accepted_by
-  low-verdict verdicts.Accepted h = spared t.geometry _ b (low-spares t e _ h low)
-  low-verdict (verdicts.Refused r) h = same-buffers b
+  low-verdict (Ok tt) h = spared t.geometry _ b (low-spares t e _ h low)
+  low-verdict (Err r) h = same-buffers b
 
   low_step : (ok : Bool) → Preserved b (pick ok (steady t e page b flags) (record { reply = reply.Refused refusal.NotUsable; target = t; buffers = b })).buffers
   unfolding steady
@@ -371,7 +364,7 @@ powered-sound page device counts flags h =
     let m = limits (geometry_of page) fine in
     all_sound _ refl fine (worded page h) m.luns-min (found-sound (geometry_of page) counts flags) refl refl refl
 
-module _ (page : List ℕ) (device : ℕ) (array registers counts flags : List ℕ) (on : power_answer page (length array) (length registers) counts flags ≡ power.Accepted) where
+module _ (page : List ℕ) (device : ℕ) (array registers counts flags : List ℕ) (on : power_answer page (length array) (length registers) counts flags ≡ Ok tt) where
   pub powered-fit : Fit (powered_up page device array registers counts flags).target page (powered_up page device array registers counts flags).buffers flags
   unfolding usable wrong_length buffer_bad powered_of
   powered-fit =
@@ -390,7 +383,7 @@ and_none : (b : Bool) → (b && false) ≡ false
 and_none true = refl
 and_none false = refl
 
-pub reset-verdict : (t : Target) → verdict t reset ≡ verdicts.Accepted
+pub reset-verdict : (t : Target) → verdict t reset ≡ Ok tt
 unfolding or_else before_reset unknown row_of first_of second_of second_row class_of offered misplaced fits others_busy line_low
 reset-verdict t = command-verdict t 0xff ∙ rw (and_none (is_open t.decoder.sequence))
 

@@ -1,6 +1,6 @@
 -- The refusals that no event gets, each given when its rule says and at no other time: 20 to 25 of power-on, 16 of a
 -- trace or a batch, and the odd last byte's 12 or 13.
-use Rattle.std.specs.Prelude.{◌≡◌, Bool, true, false, List, [], ◌∷◌, ℕ, ◌+◌, ◌*◌, ◌%◌, length, eqb, ltb}
+use Rattle.std.specs.Prelude.{Ok, Err, ◌≡◌, Bool, true, false, List, [], ◌∷◌, ℕ, ◌+◌, ◌*◌, ◌%◌, length, eqb, ltb}
 use Rattle.target.specs.Pick.{pick}
 use Rattle.target.specs.Numbers.{number_of}
 use Rattle.target.specs.declared.Event.{Event}
@@ -9,7 +9,7 @@ use Rattle.target.specs.declared.Refusal.{Refusal}
 use Rattle.target.specs.declared.Reply.TheVariants as reply
 use Rattle.power.specs.Power.{power_number, wrong_length, unsigned, crc_bad, field_bad, buffer_bad, content_bad, power_of}
 use Rattle.step.specs.Step.{Buffers}
-use Rattle.trace.specs.declared.RunAnswer.TheVariants as answer
+use Rattle.trace.specs.declared.RunRefusal.TheVariants as refused
 use Rattle.trace.specs.Run.{run_number, Running, Traced, written, ran_all, events_of, start, traced, trace_of, batch_of}
 use Rattle.thm_kept.specs.Kept.{lets_pass}
 
@@ -54,7 +54,7 @@ BatchRoom =
 
 -- "looked at before any record, nothing changes"
 abbrev pub unchanged : Target → Buffers → List ℕ → Traced
-unchanged t b room = record { answer = answer.NoRoom; target = t; buffers = b; room = room }
+unchanged t b room = record { answer = Err refused.NoRoom; target = t; buffers = b; room = room }
 
 abbrev pub TraceRefused : Type 0
 TraceRefused =
@@ -80,11 +80,11 @@ OddByte =
     → ltb (length room) (length records + length records % 2) ≡ false → eqb (length records % 2) 1 ≡ true
     → (q : Refusal) × ((number_of q ≡ pick (lets_pass s.target params s.buffers flags) 12 13)
     × (trace_of t records room params b flags
-    ≡ record { answer = answer.Done; target = s.target; buffers = s.buffers; room = written s.room s.done (reply.Refused q) }))
+    ≡ record { answer = Ok tt; target = s.target; buffers = s.buffers; room = written s.room s.done (reply.Refused q) }))
 
 -- and no trace without one gets it
 abbrev pub NoOddByte : Type 0
 NoOddByte =
     (t : Target) (records room params : List ℕ) (b : Buffers) (flags : List ℕ)
     → ltb (length room) (length records + length records % 2) ≡ false → eqb (length records % 2) 1 ≡ false
-    → trace_of t records room params b flags ≡ traced answer.Done (ran t records room params b flags)
+    → trace_of t records room params b flags ≡ traced (Ok tt) (ran t records room params b flags)

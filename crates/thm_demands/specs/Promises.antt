@@ -1,5 +1,5 @@
 -- Demand 1, sentence by sentence, and what is promised of rule 13. Each is a statement; proofs/Promised.antt proves it.
-use Rattle.std.specs.Prelude.{◌≡◌, Bool, true, false, ◌&&◌, not, List, [], ◌∷◌, ◌⊎◌, ℕ, length}
+use Rattle.std.specs.Prelude.{◌≡◌, Bool, true, false, ◌&&◌, not, List, [], ◌∷◌, ◌⊎◌, ℕ, length, Ok, Err}
 use Rattle.target.specs.Luns.{all_readied}
 use Rattle.target.specs.Numbers.{number_of}
 use Rattle.target.specs.Events.{is_bus}
@@ -10,7 +10,6 @@ use Rattle.target.specs.declared.Reply.TheVariants.{Accepted, Refused}
 use Rattle.target.specs.declared.Sequence.TheVariants.{Idle}
 use Rattle.target.specs.declared.Output.TheVariants.{Nothing}
 use Rattle.power.specs.declared.PowerRefusal.{PowerRefusal}
-use Rattle.power.specs.declared.PowerAnswer.TheVariants as power
 use Rattle.power.specs.Power.{power_answer, power_of, unpowered}
 use Rattle.step.specs.Step.{Buffers, State, step_of}
 use Rattle.thm_demands.specs.Runs.{step_at, left, after, powered_up}
@@ -56,8 +55,8 @@ RefusedBench =
 abbrev pub RefusedPower : Type 0
 RefusedPower =
     (page : List ℕ) (device : ℕ) (array registers counts flags : List ℕ) (r : PowerRefusal)
-    → (power_of page device array registers counts flags).answer ≡ power.Refused r
-    → power_of page device array registers counts flags ≡ record { answer = power.Refused r; target = unpowered; registers = registers }
+    → (power_of page device array registers counts flags).answer ≡ Err r
+    → power_of page device array registers counts flags ≡ record { answer = Err r; target = unpowered; registers = registers }
 
 -- array and counts as they were
 pub record Preserved (b n : Buffers) : Type 0 where
@@ -90,7 +89,7 @@ reset = record { kind = 0; value = 0xff }
 abbrev pub ResetReadies : Type 0
 ResetReadies =
     (page : List ℕ) (device : ℕ) (array registers counts flags : List ℕ)
-    → power_answer page (length array) (length registers) counts flags ≡ power.Accepted
+    → power_answer page (length array) (length registers) counts flags ≡ Ok tt
     → (es : List Event) (s : State) → s ≡ after page flags es (powered_up page device array registers counts flags)
     → ((step_at page flags s reset).reply ≡ Accepted)
     × ((step_at page flags s reset).target.luns ≡ all_readied s.target.luns)
@@ -99,7 +98,7 @@ ResetReadies =
 abbrev pub NeverUnusable : Type 0
 NeverUnusable =
     (page : List ℕ) (device : ℕ) (array registers counts flags : List ℕ)
-    → power_answer page (length array) (length registers) counts flags ≡ power.Accepted
+    → power_answer page (length array) (length registers) counts flags ≡ Ok tt
     → (es : List Event) (e : Event) (s : State)
     → s ≡ after page flags es (powered_up page device array registers counts flags)
     → (r : Refusal) → (step_at page flags s e).reply ≡ Refused r → number_of r ≡ 13 → ⊥

@@ -12,79 +12,78 @@ use borrow.Author.Tests.{eqb-true, le-ltb}
 use Rattle.target.specs.Pick.{pick}
 use Rattle.jobs.specs.declared.Job.{Job}
 use Rattle.jobs.specs.declared.Job.TheVariants.{Read, ReadOut, Program, Erase, Status}
+use Rattle.std.specs.Prelude.{Option, None, Some, Result, Ok, Err}
 use Rattle.jobs.specs.declared.reading.First.{First}
 use Rattle.jobs.specs.declared.reading.First.TheVariants as first
-use Rattle.jobs.specs.declared.reading.Reached.{Reached}
-use Rattle.jobs.specs.declared.reading.Reached.TheVariants as reached
-use Rattle.jobs.specs.declared.reading.Found.{Found}
-use Rattle.jobs.specs.declared.reading.Found.TheVariants as found
+use Rattle.jobs.specs.declared.reading.Misfit.{Misfit}
+use Rattle.jobs.specs.declared.reading.FoundJob.{FoundJob}
 use Rattle.jobs.specs.Writing.{wide, too_wide, records_of, data_records, out_records}
-use Rattle.jobs.specs.Reading.{Item, address, command, data_ins, data_outs, addresses, items, first_of, beginning, of_kind, many_of, through, column_at, row_at, grouped_of, found_of, begun_of, job_from, job_at}
+use Rattle.jobs.specs.Reading.{misfit, Item, address, command, data_ins, data_outs, addresses, items, first_of, beginning, of_kind, many_of, through, column_at, row_at, grouped_of, found_of, begun_of, job_from, job_at}
 use Rattle.jobs.proofs.Jobs.{read-size, read-out-size, program-size, erase-size, status-size}
 use Rattle.jobs.proofs.Walks.{through-address, through-command, through-data, through-outs, through-none}
 use Rattle.thm_jobs.specs.Round.{AllBytes, values_of, data_at, WrittenAgain, ReadAndWritten}
 use Rattle.thm_jobs.proofs.Shapes.{both_of, outs-were, data-were, given-then}
 
 -- which bytes begin a job
-abbrev Opening : First → ℕ → Type 0
-Opening first.Nothing v = Unit
-Opening first.Read v = v ≡ 0x00
-Opening first.ReadOut v = v ≡ 0x06
-Opening first.Program v = v ≡ 0x80
-Opening first.Erase v = v ≡ 0x60
-Opening first.Status v = v ≡ 0x78
+abbrev Opening : Option First → ℕ → Type 0
+Opening None v = Unit
+Opening (Some first.Read) v = v ≡ 0x00
+Opening (Some first.ReadOut) v = v ≡ 0x06
+Opening (Some first.Program) v = v ≡ 0x80
+Opening (Some first.Erase) v = v ≡ 0x60
+Opening (Some first.Status) v = v ≡ 0x78
 
-by-pick : (P : First → Type 0) (b : Bool) (x y : First) → (b ≡ true → P x) → (b ≡ false → P y) → P (pick b x y)
+by-pick : (P : Option First → Type 0) (b : Bool) (x y : Option First) → (b ≡ true → P x) → (b ≡ false → P y) → P (pick b x y)
 by-pick P true x y f g = f refl
 by-pick P false x y f g = g refl
 
 opened : (v : ℕ) → Opening (first_of v) v
 unfolding first_of
 opened v =
-    by-pick (λ (f : First). Opening f v) (eqb v 0x00) _ _ (λ e. eqb-true v 0x00 e)
-    (λ _. by-pick (λ (f : First). Opening f v) (eqb v 0x06) _ _ (λ e. eqb-true v 0x06 e)
-    (λ _. by-pick (λ (f : First). Opening f v) (eqb v 0x80) _ _ (λ e. eqb-true v 0x80 e)
-    (λ _. by-pick (λ (f : First). Opening f v) (eqb v 0x60) _ _ (λ e. eqb-true v 0x60 e)
-    (λ _. by-pick (λ (f : First). Opening f v) (eqb v 0x78) _ _ (λ e. eqb-true v 0x78 e) (λ _. tt)))))
+    by-pick (λ (f : Option First). Opening f v) (eqb v 0x00) _ _ (λ e. eqb-true v 0x00 e)
+    (λ _. by-pick (λ (f : Option First). Opening f v) (eqb v 0x06) _ _ (λ e. eqb-true v 0x06 e)
+    (λ _. by-pick (λ (f : Option First). Opening f v) (eqb v 0x80) _ _ (λ e. eqb-true v 0x80 e)
+    (λ _. by-pick (λ (f : Option First). Opening f v) (eqb v 0x60) _ _ (λ e. eqb-true v 0x60 e)
+    (λ _. by-pick (λ (f : Option First). Opening f v) (eqb v 0x78) _ _ (λ e. eqb-true v 0x78 e) (λ _. tt)))))
 
-abbrev Starting : First → ℕ → ℕ → Type 0
-Starting first.Nothing k v = Unit
-Starting first.Read k v = (k ≡ 0) × (v ≡ 0x00)
-Starting first.ReadOut k v = (k ≡ 0) × (v ≡ 0x06)
-Starting first.Program k v = (k ≡ 0) × (v ≡ 0x80)
-Starting first.Erase k v = (k ≡ 0) × (v ≡ 0x60)
-Starting first.Status k v = (k ≡ 0) × (v ≡ 0x78)
+abbrev Starting : Option First → ℕ → ℕ → Type 0
+Starting None k v = Unit
+Starting (Some first.Read) k v = (k ≡ 0) × (v ≡ 0x00)
+Starting (Some first.ReadOut) k v = (k ≡ 0) × (v ≡ 0x06)
+Starting (Some first.Program) k v = (k ≡ 0) × (v ≡ 0x80)
+Starting (Some first.Erase) k v = (k ≡ 0) × (v ≡ 0x60)
+Starting (Some first.Status) k v = (k ≡ 0) × (v ≡ 0x78)
 
-joined : (f : First) (k v : ℕ) → k ≡ 0 → Opening f v → Starting f k v
-joined first.Nothing k v e o = tt
-joined first.Read k v e o = (e, o)
-joined first.ReadOut k v e o = (e, o)
-joined first.Program k v e o = (e, o)
-joined first.Erase k v e o = (e, o)
-joined first.Status k v e o = (e, o)
+joined : (f : Option First) (k v : ℕ) → k ≡ 0 → Opening f v → Starting f k v
+joined None k v e o = tt
+joined (Some first.Read) k v e o = (e, o)
+joined (Some first.ReadOut) k v e o = (e, o)
+joined (Some first.Program) k v e o = (e, o)
+joined (Some first.Erase) k v e o = (e, o)
+joined (Some first.Status) k v e o = (e, o)
 
 started : (k v : ℕ) → Starting (beginning k v) k v
 unfolding beginning
 started k v =
-    by-pick (λ (f : First). Starting f k v) (eqb k 0) (first_of v) first.Nothing
+    by-pick (λ (f : Option First). Starting f k v) (eqb k 0) (first_of v) None
     (λ e. joined (first_of v) k v (eqb-true k 0 e) (opened v))
     (λ _. tt)
 
 -- items that were all there
-never-whole : (p q : ℕ) → reached.Stops p ≡ reached.Whole q → ⊥
+never-whole : (p q : ℕ) → ◌≡◌ {A = Result ℕ Misfit} (Err (misfit p)) (Ok q) → ⊥
 never-whole p q e = let z : ◌≡◌ {A = ℕ} 0 1 = cc in omega arith
 
 record Address (is : List Item) (ts : List ℕ) (at p : ℕ) : Type 0 where
   value : ℕ
   rest : List ℕ
   same : ts ≡ 1 ∷ (value ∷ rest)
-  on : through is rest (at + 1) ≡ reached.Whole p
+  on : through is rest (at + 1) ≡ Ok p
 
-address-was : (is : List Item) (ts : List ℕ) (at p : ℕ) → through (address ∷ is) ts at ≡ reached.Whole p → Address is ts at p
+address-was : (is : List Item) (ts : List ℕ) (at p : ℕ) → through (address ∷ is) ts at ≡ Ok p → Address is ts at p
 address-was is [] at p e = absurd (never-whole at p (sym (through-address is [] at) ∙ e))
 address-was is (k ∷ []) at p e = absurd (never-whole at p (sym (through-address is (k ∷ []) at) ∙ e))
 address-was is (k ∷ (v ∷ ts)) at p e = side (of_kind 1 k v) refl (sym (through-address is (k ∷ (v ∷ ts)) at) ∙ e) where
-  side : (b : Bool) → of_kind 1 k v ≡ b → pick b (through is ts (at + 1)) (reached.Stops at) ≡ reached.Whole p → Address is (k ∷ (v ∷ ts)) at p
+  side : (b : Bool) → of_kind 1 k v ≡ b → pick b (through is ts (at + 1)) (Err (misfit at)) ≡ Ok p → Address is (k ∷ (v ∷ ts)) at p
   side true w e =
       let ek : k ≡ 1 = eqb-true k 1 (both_of (eqb k 1) true w).0 in
       record { value = v; rest = ts; same = rw (ek); on = e }
@@ -93,20 +92,20 @@ address-was is (k ∷ (v ∷ ts)) at p e = side (of_kind 1 k v) refl (sym (throu
 record Closing (b : ℕ) (is : List Item) (ts : List ℕ) (at p : ℕ) : Type 0 where
   rest : List ℕ
   same : ts ≡ 0 ∷ (b ∷ rest)
-  on : through is rest (at + 1) ≡ reached.Whole p
+  on : through is rest (at + 1) ≡ Ok p
 
-command-was : (b : ℕ) (is : List Item) (ts : List ℕ) (at p : ℕ) → through (command b ∷ is) ts at ≡ reached.Whole p → Closing b is ts at p
+command-was : (b : ℕ) (is : List Item) (ts : List ℕ) (at p : ℕ) → through (command b ∷ is) ts at ≡ Ok p → Closing b is ts at p
 command-was b is [] at p e = absurd (never-whole at p (sym (through-command b is [] at) ∙ e))
 command-was b is (k ∷ []) at p e = absurd (never-whole at p (sym (through-command b is (k ∷ []) at) ∙ e))
 command-was b is (k ∷ (v ∷ ts)) at p e = side (eqb k 0 && eqb v b) refl (sym (through-command b is (k ∷ (v ∷ ts)) at) ∙ e) where
-  side : (c : Bool) → (eqb k 0 && eqb v b) ≡ c → pick c (through is ts (at + 1)) (reached.Stops at) ≡ reached.Whole p → Closing b is (k ∷ (v ∷ ts)) at p
+  side : (c : Bool) → (eqb k 0 && eqb v b) ≡ c → pick c (through is ts (at + 1)) (Err (misfit at)) ≡ Ok p → Closing b is (k ∷ (v ∷ ts)) at p
   side true w e =
       let ek : k ≡ 0 = eqb-true k 0 (both_of (eqb k 0) (eqb v b) w).0 in
       let ev : v ≡ b = eqb-true v b (both_of (eqb k 0) (eqb v b) w).1 in
       record { rest = ts; same = rw (ek, ev); on = e }
   side false w e = absurd (never-whole at p e)
 
-whole-at : (p q : ℕ) → reached.Whole p ≡ reached.Whole q → p ≡ q
+whole-at : (p q : ℕ) → ◌≡◌ {A = Result ℕ Misfit} (Ok p) (Ok q) → p ≡ q
 whole-at p q e = cc
 
 record Three (is : List Item) (ts : List ℕ) (at p : ℕ) : Type 0 where
@@ -115,9 +114,9 @@ record Three (is : List Item) (ts : List ℕ) (at p : ℕ) : Type 0 where
   c : ℕ
   rest : List ℕ
   same : ts ≡ 1 ∷ (a ∷ (1 ∷ (b ∷ (1 ∷ (c ∷ rest)))))
-  on : through is rest (at + 1 + 1 + 1) ≡ reached.Whole p
+  on : through is rest (at + 1 + 1 + 1) ≡ Ok p
 
-three-were : (is : List Item) (ts : List ℕ) (at p : ℕ) → through (addresses 3 is) ts at ≡ reached.Whole p → Three is ts at p
+three-were : (is : List Item) (ts : List ℕ) (at p : ℕ) → through (addresses 3 is) ts at ≡ Ok p → Three is ts at p
 three-were is ts at p e =
     let x = address-was (addresses 2 is) ts at p e in
     let y = address-was (addresses 1 is) x.rest (at + 1) p x.on in
@@ -139,9 +138,9 @@ record Five (is : List Item) (ts : List ℕ) (at p : ℕ) : Type 0 where
   e : ℕ
   rest : List ℕ
   same : ts ≡ 1 ∷ (a ∷ (1 ∷ (b ∷ (1 ∷ (c ∷ (1 ∷ (d ∷ (1 ∷ (e ∷ rest)))))))))
-  on : through is rest (at + 1 + 1 + 1 + 1 + 1) ≡ reached.Whole p
+  on : through is rest (at + 1 + 1 + 1 + 1 + 1) ≡ Ok p
 
-five-were : (is : List Item) (ts : List ℕ) (at p : ℕ) → through (addresses 5 is) ts at ≡ reached.Whole p → Five is ts at p
+five-were : (is : List Item) (ts : List ℕ) (at p : ℕ) → through (addresses 5 is) ts at ≡ Ok p → Five is ts at p
 five-were is ts at p e =
     let x = address-was (addresses 4 is) ts at p e in
     let y = address-was (addresses 3 is) x.rest (at + 1) p x.on in
@@ -290,10 +289,13 @@ again trace at j bytes after p narrow same size =
     ∙ drop-append_seam (records_of j bytes) after in
     record { narrow = narrow; same = rw (rest) same; size = size }
 
-abbrev So : List ℕ → ℕ → Found → Type 0
-So trace at found.End = Unit
-So trace at (found.Misfit p) = Unit
-So trace at (found.Whole j d n p) = WrittenAgain trace at j (data_at trace d n) p
+abbrev Sound : List ℕ → ℕ → FoundJob → Type 0
+Sound trace at g = WrittenAgain trace at g.job (data_at trace g.place g.count) g.next
+
+abbrev So : List ℕ → ℕ → Result (Option FoundJob) Misfit → Type 0
+So trace at (Ok None) = Unit
+So trace at (Err m) = Unit
+So trace at (Ok (Some g)) = Sound trace at g
 
 data_is : (trace : List ℕ) (d m n : ℕ) (rest : List ℕ) → m ≡ n → drop (2 * d) trace ≡ rest → data_at trace d m ≡ values_of n rest
 unfolding data_at
@@ -304,7 +306,7 @@ values-size zero ts = refl
 values-size (suc n) ts = ap suc (values-size n (drop 2 ts))
 
 module _ (trace : List ℕ) (at : ℕ) (ts : List ℕ) (p : ℕ) where
-  read_again : drop (2 * at) trace ≡ 0 ∷ (0x00 ∷ ts) → ((i : ℕ) → get_or (0 ∷ (0x00 ∷ ts)) i 0 < 256) → through (items first.Read) ts (at + 1) ≡ reached.Whole p → So trace at (grouped_of first.Read (0 ∷ (0x00 ∷ ts)) at p)
+  read_again : drop (2 * at) trace ≡ 0 ∷ (0x00 ∷ ts) → ((i : ℕ) → get_or (0 ∷ (0x00 ∷ ts)) i 0 < 256) → through (items first.Read) ts (at + 1) ≡ Ok p → Sound trace at (grouped_of first.Read (0 ∷ (0x00 ∷ ts)) at p)
   unfolding too_wide
   read_again here bound e =
       let is : List Item = command 0x30 ∷ [] in
@@ -319,7 +321,7 @@ module _ (trace : List ℕ) (at : ℕ) (ts : List ℕ) (p : ℕ) where
       ∙ sym (rw (column-is 0x00 ts bound is (at + 1) p f, row_is 0x00 ts bound is (at + 1) p f)) in
       again trace at _ (data_at trace 0 0) k.rest p (narrow-long 0x00 ts bound is (at + 1) p f) all (omega (arith, read-size (column_at (0 ∷ (0x00 ∷ ts))) (row_at (0 ∷ (0x00 ∷ ts)) 3) (data_at trace 0 0)))
 
-  read-out-again : drop (2 * at) trace ≡ 0 ∷ (0x06 ∷ ts) → ((i : ℕ) → get_or (0 ∷ (0x06 ∷ ts)) i 0 < 256) → through (items first.ReadOut) ts (at + 1) ≡ reached.Whole p → So trace at (grouped_of first.ReadOut (0 ∷ (0x06 ∷ ts)) at p)
+  read-out-again : drop (2 * at) trace ≡ 0 ∷ (0x06 ∷ ts) → ((i : ℕ) → get_or (0 ∷ (0x06 ∷ ts)) i 0 < 256) → through (items first.ReadOut) ts (at + 1) ≡ Ok p → Sound trace at (grouped_of first.ReadOut (0 ∷ (0x06 ∷ ts)) at p)
   unfolding too_wide
   read-out-again here bound e =
       let is : List Item = command 0xe0 ∷ (data_outs ∷ []) in
@@ -338,7 +340,7 @@ module _ (trace : List ℕ) (at : ℕ) (ts : List ℕ) (p : ℕ) where
       ∙ sym (rw (column-is 0x06 ts bound is (at + 1) p f, row_is 0x06 ts bound is (at + 1) p f, count)) in
       again trace at _ (data_at trace 0 0) after p (narrow-long 0x06 ts bound is (at + 1) p f) all (omega (arith, read-out-size (column_at (0 ∷ (0x06 ∷ ts))) (row_at (0 ∷ (0x06 ∷ ts)) 3) (p - (at + 7)) (data_at trace 0 0)))
 
-  program-again : drop (2 * at) trace ≡ 0 ∷ (0x80 ∷ ts) → ((i : ℕ) → get_or (0 ∷ (0x80 ∷ ts)) i 0 < 256) → through (items first.Program) ts (at + 1) ≡ reached.Whole p → So trace at (grouped_of first.Program (0 ∷ (0x80 ∷ ts)) at p)
+  program-again : drop (2 * at) trace ≡ 0 ∷ (0x80 ∷ ts) → ((i : ℕ) → get_or (0 ∷ (0x80 ∷ ts)) i 0 < 256) → through (items first.Program) ts (at + 1) ≡ Ok p → Sound trace at (grouped_of first.Program (0 ∷ (0x80 ∷ ts)) at p)
   unfolding too_wide
   program-again here bound e =
       let is : List Item = data_ins ∷ (command 0x10 ∷ []) in
@@ -362,7 +364,7 @@ module _ (trace : List ℕ) (at : ℕ) (ts : List ℕ) (p : ℕ) where
       let size : length (data_at trace (at + 6) (p - (at + 7))) ≡ n = ap length given ∙ values-size n f.rest in
       again trace at _ (data_at trace (at + 6) (p - (at + 7))) k.rest p (narrow-long 0x80 ts bound is (at + 1) p f) all (omega (arith, program-size (column_at (0 ∷ (0x80 ∷ ts))) (row_at (0 ∷ (0x80 ∷ ts)) 3) (data_at trace (at + 6) (p - (at + 7)))))
 
-  erase-again : drop (2 * at) trace ≡ 0 ∷ (0x60 ∷ ts) → ((i : ℕ) → get_or (0 ∷ (0x60 ∷ ts)) i 0 < 256) → through (items first.Erase) ts (at + 1) ≡ reached.Whole p → So trace at (grouped_of first.Erase (0 ∷ (0x60 ∷ ts)) at p)
+  erase-again : drop (2 * at) trace ≡ 0 ∷ (0x60 ∷ ts) → ((i : ℕ) → get_or (0 ∷ (0x60 ∷ ts)) i 0 < 256) → through (items first.Erase) ts (at + 1) ≡ Ok p → Sound trace at (grouped_of first.Erase (0 ∷ (0x60 ∷ ts)) at p)
   unfolding too_wide
   erase-again here bound e =
       let is : List Item = command 0xd0 ∷ [] in
@@ -378,7 +380,7 @@ module _ (trace : List ℕ) (at : ℕ) (ts : List ℕ) (p : ℕ) where
       ∙ sym (rw (short-row-is 0x60 ts bound is (at + 1) p f)) in
       again trace at _ (data_at trace 0 0) k.rest p (narrow_short 0x60 ts bound is (at + 1) p f) all (omega (arith, erase-size (row_at (0 ∷ (0x60 ∷ ts)) 1) (data_at trace 0 0)))
 
-  status-again : drop (2 * at) trace ≡ 0 ∷ (0x78 ∷ ts) → ((i : ℕ) → get_or (0 ∷ (0x78 ∷ ts)) i 0 < 256) → through (items first.Status) ts (at + 1) ≡ reached.Whole p → So trace at (grouped_of first.Status (0 ∷ (0x78 ∷ ts)) at p)
+  status-again : drop (2 * at) trace ≡ 0 ∷ (0x78 ∷ ts) → ((i : ℕ) → get_or (0 ∷ (0x78 ∷ ts)) i 0 < 256) → through (items first.Status) ts (at + 1) ≡ Ok p → Sound trace at (grouped_of first.Status (0 ∷ (0x78 ∷ ts)) at p)
   unfolding too_wide
   status-again here bound e =
       let is : List Item = data_outs ∷ [] in
@@ -399,18 +401,18 @@ module _ (trace : List ℕ) (at : ℕ) (ts : List ℕ) (p : ℕ) where
 -- from the record that begins a job
 module _ (trace : List ℕ) (at k v : ℕ) (ts : List ℕ) (here : drop (2 * at) trace ≡ k ∷ (v ∷ ts)) (bound : (i : ℕ) → get_or (k ∷ (v ∷ ts)) i 0 < 256) where
   by-reached : (f : First) (b : ℕ) → k ≡ 0 → v ≡ b
-      → ((p : ℕ) → drop (2 * at) trace ≡ 0 ∷ (b ∷ ts) → ((i : ℕ) → get_or (0 ∷ (b ∷ ts)) i 0 < 256) → through (items f) ts (at + 1) ≡ reached.Whole p → So trace at (grouped_of f (0 ∷ (b ∷ ts)) at p))
-      → (r : Reached) → through (items f) ts (at + 1) ≡ r → So trace at (found_of f (k ∷ (v ∷ ts)) at r)
-  by-reached f b ek ev made (reached.Stops p) e = tt
-  by-reached f b ek ev made (reached.Whole p) e = rw (ek, ev) (made p (rw (ek, ev) at here) (rw (ek, ev) at bound) e)
+      → ((p : ℕ) → drop (2 * at) trace ≡ 0 ∷ (b ∷ ts) → ((i : ℕ) → get_or (0 ∷ (b ∷ ts)) i 0 < 256) → through (items f) ts (at + 1) ≡ Ok p → Sound trace at (grouped_of f (0 ∷ (b ∷ ts)) at p))
+      → (r : Result ℕ Misfit) → through (items f) ts (at + 1) ≡ r → So trace at (found_of f (k ∷ (v ∷ ts)) at r)
+  by-reached f b ek ev made (Err m) e = tt
+  by-reached f b ek ev made (Ok p) e = rw (ek, ev) (made p (rw (ek, ev) at here) (rw (ek, ev) at bound) e)
 
-  by_first : (f : First) → Starting f k v → So trace at (begun_of f (k ∷ (v ∷ ts)) at)
-  by_first first.Nothing s = tt
-  by_first first.Read s = by-reached first.Read 0x00 s.0 s.1 (λ p h b e. read_again trace at ts p h b e) _ refl
-  by_first first.ReadOut s = by-reached first.ReadOut 0x06 s.0 s.1 (λ p h b e. read-out-again trace at ts p h b e) _ refl
-  by_first first.Program s = by-reached first.Program 0x80 s.0 s.1 (λ p h b e. program-again trace at ts p h b e) _ refl
-  by_first first.Erase s = by-reached first.Erase 0x60 s.0 s.1 (λ p h b e. erase-again trace at ts p h b e) _ refl
-  by_first first.Status s = by-reached first.Status 0x78 s.0 s.1 (λ p h b e. status-again trace at ts p h b e) _ refl
+  by_first : (f : Option First) → Starting f k v → So trace at (begun_of f (k ∷ (v ∷ ts)) at)
+  by_first None s = tt
+  by_first (Some first.Read) s = by-reached first.Read 0x00 s.0 s.1 (λ p h b e. read_again trace at ts p h b e) _ refl
+  by_first (Some first.ReadOut) s = by-reached first.ReadOut 0x06 s.0 s.1 (λ p h b e. read-out-again trace at ts p h b e) _ refl
+  by_first (Some first.Program) s = by-reached first.Program 0x80 s.0 s.1 (λ p h b e. program-again trace at ts p h b e) _ refl
+  by_first (Some first.Erase) s = by-reached first.Erase 0x60 s.0 s.1 (λ p h b e. erase-again trace at ts p h b e) _ refl
+  by_first (Some first.Status) s = by-reached first.Status 0x78 s.0 s.1 (λ p h b e. status-again trace at ts p h b e) _ refl
 
 from : (trace : List ℕ) (at : ℕ) (ts : List ℕ) → drop (2 * at) trace ≡ ts → ((i : ℕ) → get_or ts i 0 < 256) → So trace at (job_from ts at)
 from trace at [] here bound = tt

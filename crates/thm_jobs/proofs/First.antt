@@ -15,15 +15,13 @@ use Rattle.slices.specs.Cells.{all_at_most}
 use Rattle.target.specs.Pick.{pick}
 use Rattle.jobs.specs.declared.Job.{Job}
 use Rattle.jobs.specs.declared.Job.TheVariants.{Read, ReadOut, Program, Erase, Status}
+use Rattle.std.specs.Prelude.{Option, None, Some, Result, Ok, Err}
 use Rattle.jobs.specs.declared.reading.First.{First}
 use Rattle.jobs.specs.declared.reading.First.TheVariants as first
-use Rattle.jobs.specs.declared.reading.Reached.{Reached}
-use Rattle.jobs.specs.declared.reading.Reached.TheVariants as reached
-use Rattle.jobs.specs.declared.reading.Found.{Found}
-use Rattle.jobs.specs.declared.reading.Found.TheVariants as found
-use Rattle.jobs.specs.declared.reading.Listed.TheVariants as listed
+use Rattle.jobs.specs.declared.reading.Misfit.{Misfit}
+use Rattle.jobs.specs.declared.reading.FoundJob.{FoundJob}
 use Rattle.jobs.specs.Writing.{too_wide, records_of}
-use Rattle.jobs.specs.Reading.{Item, address, command, data_ins, data_outs, items, beginning, of_kind, is_kind, many_of, through, found_of, begun_of, job_from, job_at, Next, stuck, on, begun, step, ended, onward, walk, first_misfit}
+use Rattle.jobs.specs.Reading.{misfit, whole, Item, address, command, data_ins, data_outs, items, beginning, of_kind, is_kind, many_of, through, found_of, begun_of, job_from, job_at, Next, stuck, on, begun, step, ended, onward, walk, first_misfit}
 use Rattle.jobs.proofs.Jobs.{read-size, read-out-size, program-size, erase-size, status-size}
 use Rattle.jobs.proofs.Runs.{later, never}
 use Rattle.jobs.proofs.Walks.{walk-address, walk-command, Many, ins, outs, walk-many, walk-job, ahead, job-ahead, walk_start, walk_end, walk-odd}
@@ -32,41 +30,38 @@ use Rattle.thm_jobs.proofs.Shapes.{none-come, both_of}
 use Rattle.thm_jobs.proofs.Back.{job-back}
 use Rattle.thm_jobs.proofs.Again.{read-and-written}
 
-never-jobs : (p : ℕ) → listed.Misfit p ≡ listed.Jobs → ⊥
+-- a list that stops being whole jobs there
+abbrev breaks : ℕ → Result Unit Misfit
+breaks p = Err (misfit p)
+
+never-jobs : (p : ℕ) → breaks p ≡ Ok tt → ⊥
 never-jobs p e = let z : ◌≡◌ {A = ℕ} 0 1 = cc in omega arith
 
-misfit-at : (p q : ℕ) → listed.Misfit p ≡ listed.Misfit q → p ≡ q
-misfit-at p q e = cc
+misfit-at : (p q : ℕ) → breaks p ≡ breaks q → p ≡ q
+misfit-at p q e =
+    let same : misfit p ≡ misfit q = cc in
+    ap (λ (m : Misfit). m.place) same
 
 -- no misfit, so whole jobs
-abbrev is-end : Found → Bool
-is-end found.End = true
-is-end (found.Misfit p) = false
-is-end (found.Whole j d n p) = false
+abbrev is-end : Result (Option FoundJob) Misfit → Bool
+is-end (Ok None) = true
+is-end (Err m) = false
+is-end (Ok (Some g)) = false
 
-found-goes-on : (f : First) (ts : List ℕ) (at : ℕ) (r : Reached) → is-end (found_of f ts at r) ≡ false
-found-goes-on f ts at (reached.Stops p) = refl
-found-goes-on first.Nothing ts at (reached.Whole p) = refl
-found-goes-on first.Read ts at (reached.Whole p) = refl
-found-goes-on first.ReadOut ts at (reached.Whole p) = refl
-found-goes-on first.Program ts at (reached.Whole p) = refl
-found-goes-on first.Erase ts at (reached.Whole p) = refl
-found-goes-on first.Status ts at (reached.Whole p) = refl
+found-goes-on : (f : First) (ts : List ℕ) (at : ℕ) (r : Result ℕ Misfit) → is-end (found_of f ts at r) ≡ false
+found-goes-on f ts at (Err m) = refl
+found-goes-on f ts at (Ok p) = refl
 
-goes_on : (f : First) (ts : List ℕ) (at : ℕ) → is-end (begun_of f ts at) ≡ false
-goes_on first.Nothing ts at = refl
-goes_on first.Read ts at = found-goes-on first.Read ts at (through (items first.Read) (drop 2 ts) (at + 1))
-goes_on first.ReadOut ts at = found-goes-on first.ReadOut ts at (through (items first.ReadOut) (drop 2 ts) (at + 1))
-goes_on first.Program ts at = found-goes-on first.Program ts at (through (items first.Program) (drop 2 ts) (at + 1))
-goes_on first.Erase ts at = found-goes-on first.Erase ts at (through (items first.Erase) (drop 2 ts) (at + 1))
-goes_on first.Status ts at = found-goes-on first.Status ts at (through (items first.Status) (drop 2 ts) (at + 1))
+goes_on : (f : Option First) (ts : List ℕ) (at : ℕ) → is-end (begun_of f ts at) ≡ false
+goes_on None ts at = refl
+goes_on (Some f) ts at = found-goes-on f ts at (through (items f) (drop 2 ts) (at + 1))
 
-ended_at : (ts : List ℕ) (at : ℕ) → job_from ts at ≡ found.End → ts ≡ []
+ended_at : (ts : List ℕ) (at : ℕ) → job_from ts at ≡ Ok None → ts ≡ []
 ended_at [] at e = refl
 ended_at (k ∷ []) at e = absurd (never (ap is-end e))
 ended_at (k ∷ (v ∷ ts)) at e = absurd (never (sym (goes_on (beginning k v) (k ∷ (v ∷ ts)) at) ∙ ap is-end e))
 
-ended_here : (t : List ℕ) (at : ℕ) → job_at t at ≡ found.End → drop (2 * at) t ≡ []
+ended_here : (t : List ℕ) (at : ℕ) → job_at t at ≡ Ok None → drop (2 * at) t ≡ []
 unfolding job_at
 ended_here t at e = ended_at (drop (2 * at) t) at e
 
@@ -80,19 +75,19 @@ joined j bytes ts rest narrow same w = record {
   same = same ∙ ap (λ (l : List ℕ). records_of j bytes ++ l) w.same;
 }
 
-sound : (fuel : ℕ) (t : List ℕ) (at : ℕ) → AllBytes t → length t / 2 < at + fuel → walk [] (drop (2 * at) t) at ≡ listed.Jobs → WholeJobs (drop (2 * at) t)
+sound : (fuel : ℕ) (t : List ℕ) (at : ℕ) → AllBytes t → length t / 2 < at + fuel → walk [] (drop (2 * at) t) at ≡ Ok tt → WholeJobs (drop (2 * at) t)
 sound zero t at b h e =
     let none : length t ≤ 2 * at = omega arith in
     none_left (drop (2 * at) t) (drop_of_length-le t none)
 sound (suc fuel) t at b h e = by-found (job_at t at) refl (λ p low on. sound fuel t p b (omega arith) on) where
-  by-found : (f : Found) → job_at t at ≡ f → ((p : ℕ) → at + 1 ≤ p → walk [] (drop (2 * p) t) p ≡ listed.Jobs → WholeJobs (drop (2 * p) t)) → WholeJobs (drop (2 * at) t)
-  by-found found.End f ih = none_left (drop (2 * at) t) (ended_here t at f)
-  by-found (found.Misfit p) f ih = absurd (never-jobs p (sym (ap (ahead t) f) ∙ sym (walk-job t at) ∙ e))
-  by-found (found.Whole j d n p) f ih =
-      let again = read-and-written t at j d n p b f in
-      let ahead_of_lem = job-ahead t at j d n p f in
-      joined j (data_at t d n) (drop (2 * at) t) (drop (2 * p) t) again.narrow again.same
-      (ih p ahead_of_lem.low (sym (ap (ahead t) f) ∙ sym (walk-job t at) ∙ e))
+  by-found : (f : Result (Option FoundJob) Misfit) → job_at t at ≡ f → ((p : ℕ) → at + 1 ≤ p → walk [] (drop (2 * p) t) p ≡ Ok tt → WholeJobs (drop (2 * p) t)) → WholeJobs (drop (2 * at) t)
+  by-found (Ok None) f ih = none_left (drop (2 * at) t) (ended_here t at f)
+  by-found (Err m) f ih = absurd (never-jobs m.place (sym (ap (ahead t) f) ∙ sym (walk-job t at) ∙ e))
+  by-found (Ok (Some g)) f ih =
+      let again = read-and-written t at g.job g.place g.count g.next b f in
+      let ahead_of_lem = job-ahead t at g f in
+      joined g.job (data_at t g.place g.count) (drop (2 * at) t) (drop (2 * g.next) t) again.narrow again.same
+      (ih g.next ahead_of_lem.low (sym (ap (ahead t) f) ∙ sym (walk-job t at) ∙ e))
 
 pub jobs-are-whole : JobsAreWhole
 jobs-are-whole trace b e = sound (length trace + 1) trace 0 b (omega arith) (sym (walk_start trace) ∙ e)
@@ -118,11 +113,11 @@ even-size (Erase r) bytes = omega (arith, erase-size r bytes)
 even-size (Status r n) bytes = omega (arith, status-size r n bytes)
 
 job-here : (t : List ℕ) (at : ℕ) (j : Job) (bytes more : List ℕ) → too_wide j ≡ false → is_kind 3 more ≡ false → drop (2 * at) t ≡ records_of j bytes ++ more
-    → job_at t at ≡ found.Whole j (data_place j at) (data_count j bytes) (at + length (records_of j bytes) / 2)
+    → job_at t at ≡ whole j (data_place j at) (data_count j bytes) (at + length (records_of j bytes) / 2)
 unfolding job_at
 job-here t at j bytes more narrow none e = rw (e) (job-back at more j bytes narrow none)
 
-complete : (t : List ℕ) (at : ℕ) (gs : List Given) → none_wide gs ≡ true → drop (2 * at) t ≡ records_all gs → walk [] (drop (2 * at) t) at ≡ listed.Jobs
+complete : (t : List ℕ) (at : ℕ) (gs : List Given) → none_wide gs ≡ true → drop (2 * at) t ≡ records_all gs → walk [] (drop (2 * at) t) at ≡ Ok tt
 complete t at [] narrow e = rw (e) (walk_end at)
 complete t at (g ∷ gs) narrow e =
     let both = both_of (not (too_wide g.job)) (none_wide gs) narrow in
@@ -158,7 +153,7 @@ past-none {i} {kind} m is ts at e =
     let place : at + 0 ≡ at = omega arith in
     walk-many m is ts at ∙ rw (none, place)
 
-least-walk : (is : List Item) (at : ℕ) → walk is (least is) at ≡ listed.Jobs
+least-walk : (is : List Item) (at : ℕ) → walk is (least is) at ≡ Ok tt
 least-walk [] at = walk_end at
 least-walk (address ∷ is) at = walk-address is (1 ∷ (0 ∷ least is)) at ∙ least-walk is (at + 1)
 least-walk (command b ∷ is) at = walk-command b is (0 ∷ (b ∷ least is)) at ∙ rw (eq-eqb b b refl) (least-walk is (at + 1))
@@ -172,14 +167,14 @@ on_same a b e = cc
 never_on : (a : List Item) → stuck ≡ on a → ⊥
 never_on a e = let z : ◌≡◌ {A = ℕ} 0 1 = cc in omega arith
 
-fine-first : (f : First) (js : List Item) → begun f ≡ on js → all_at_most 255 (least js) ≡ true
+fine-first : (f : Option First) (js : List Item) → begun f ≡ on js → all_at_most 255 (least js) ≡ true
 unfolding all_at_most
-fine-first first.Nothing js e = absurd (never_on js e)
-fine-first first.Read js e = rw (← on_same (items first.Read) js e)
-fine-first first.ReadOut js e = rw (← on_same (items first.ReadOut) js e)
-fine-first first.Program js e = rw (← on_same (items first.Program) js e)
-fine-first first.Erase js e = rw (← on_same (items first.Erase) js e)
-fine-first first.Status js e = rw (← on_same (items first.Status) js e)
+fine-first None js e = absurd (never_on js e)
+fine-first (Some first.Read) js e = rw (← on_same (items first.Read) js e)
+fine-first (Some first.ReadOut) js e = rw (← on_same (items first.ReadOut) js e)
+fine-first (Some first.Program) js e = rw (← on_same (items first.Program) js e)
+fine-first (Some first.Erase) js e = rw (← on_same (items first.Erase) js e)
+fine-first (Some first.Status) js e = rw (← on_same (items first.Status) js e)
 
 fine-one : (b : Bool) (is js : List Item) → pick b (on is) stuck ≡ on js → all_at_most 255 (least is) ≡ true → all_at_most 255 (least js) ≡ true
 fine-one true is js e h = rw (← on_same is js e) h
@@ -216,17 +211,17 @@ unfolding all_at_most
 none-fine = refl
 
 -- one record of a walk
-walk-next : (is : List Item) (k v : ℕ) (ts : List ℕ) (at : ℕ) → walk is (k ∷ (v ∷ ts)) at ≡ onward (step is k v) (listed.Misfit at) (λ js. walk js ts (at + 1))
+walk-next : (is : List Item) (k v : ℕ) (ts : List ℕ) (at : ℕ) → walk is (k ∷ (v ∷ ts)) at ≡ onward (step is k v) (breaks at) (λ js. walk js ts (at + 1))
 unfolding walk
 walk-next is k v ts at = refl
 
-stuck_at : (is : List Item) (k v : ℕ) (ts : List ℕ) (at : ℕ) → step is k v ≡ stuck → walk is (k ∷ (v ∷ ts)) at ≡ listed.Misfit at
+stuck_at : (is : List Item) (k v : ℕ) (ts : List ℕ) (at : ℕ) → step is k v ≡ stuck → walk is (k ∷ (v ∷ ts)) at ≡ breaks at
 stuck_at is k v ts at e = walk-next is k v ts at ∙ rw (e)
 
 on-from : (is : List Item) (k v : ℕ) (ts : List ℕ) (at : ℕ) (js : List Item) → step is k v ≡ on js → walk is (k ∷ (v ∷ ts)) at ≡ walk js ts (at + 1)
 on-from is k v ts at js e = walk-next is k v ts at ∙ rw (e)
 
-walk_none : (is : List Item) (at : ℕ) → walk is [] at ≡ pick (ended is) listed.Jobs (listed.Misfit at)
+walk_none : (is : List Item) (at : ℕ) → walk is [] at ≡ pick (ended is) (Ok tt) (breaks at)
 unfolding walk
 walk_none is at = refl
 
@@ -235,16 +230,16 @@ record Placed (at n p : ℕ) : Type 0 where
   low : at ≤ p
   high : p ≤ at + n / 2
 
-placed : (is : List Item) (ts : List ℕ) (at p : ℕ) → walk is ts at ≡ listed.Misfit p → Placed at (length ts) p
+placed : (is : List Item) (ts : List ℕ) (at p : ℕ) → walk is ts at ≡ breaks p → Placed at (length ts) p
 placed is [] at p e = by_end (ended is) (sym (walk_none is at) ∙ e) where
-  by_end : (b : Bool) → pick b listed.Jobs (listed.Misfit at) ≡ listed.Misfit p → Placed at 0 p
+  by_end : (b : Bool) → pick b (Ok tt) (breaks at) ≡ breaks p → Placed at 0 p
   by_end true f = absurd (never-jobs p (sym f))
   by_end false f = let same : at ≡ p = misfit-at at p f in record { low = omega arith; high = omega arith }
 placed is (k ∷ []) at p e =
     let same : at ≡ p = misfit-at at p (sym (walk-odd is k at) ∙ e) in
     record { low = omega arith; high = omega arith }
 placed is (k ∷ (v ∷ ts)) at p e = by-step (step is k v) refl (λ js f. placed js ts (at + 1) p f) where
-  by-step : (s : Next) → step is k v ≡ s → ((js : List Item) → walk js ts (at + 1) ≡ listed.Misfit p → Placed (at + 1) (length ts) p) → Placed at (length (k ∷ (v ∷ ts))) p
+  by-step : (s : Next) → step is k v ≡ s → ((js : List Item) → walk js ts (at + 1) ≡ breaks p → Placed (at + 1) (length ts) p) → Placed at (length (k ∷ (v ∷ ts))) p
   by-step stuck s ih =
       let same : at ≡ p = misfit-at at p (sym (stuck_at is k v ts at s) ∙ e) in
       record { low = omega arith; high = omega arith }
@@ -256,9 +251,9 @@ placed is (k ∷ (v ∷ ts)) at p e = by-step (step is k v) refl (λ js f. place
 record Completed (is : List Item) (xs : List ℕ) (at : ℕ) : Type 0 where
   rest : List ℕ
   fine : all_at_most 255 rest ≡ true
-  done : walk is (xs ++ rest) at ≡ listed.Jobs
+  done : walk is (xs ++ rest) at ≡ Ok tt
 
-completed : (n : ℕ) (is : List Item) (xs ys : List ℕ) (at : ℕ) → length xs ≡ 2 * n → all_at_most 255 (least is) ≡ true → walk is (xs ++ ys) at ≡ listed.Misfit (at + n) → Completed is xs at
+completed : (n : ℕ) (is : List Item) (xs ys : List ℕ) (at : ℕ) → length xs ≡ 2 * n → all_at_most 255 (least is) ≡ true → walk is (xs ++ ys) at ≡ breaks (at + n) → Completed is xs at
 completed zero is [] ys at size fine e = record { rest = least is; fine = fine; done = least-walk is at }
 completed zero is (x ∷ xs) ys at size fine e = absurd (omega arith)
 completed (suc n) is [] ys at size fine e = absurd (omega arith)
@@ -266,37 +261,37 @@ completed (suc n) is (x ∷ []) ys at size fine e = absurd (omega arith)
 completed (suc n) is (k ∷ (v ∷ xs)) ys at size fine e =
     by-step (step is k v) refl (λ js f g. completed n js xs ys (at + 1) (omega arith) f g)
   where
-    by-step : (s : Next) → step is k v ≡ s → ((js : List Item) → all_at_most 255 (least js) ≡ true → walk js (xs ++ ys) (at + 1) ≡ listed.Misfit (at + 1 + n) → Completed js xs (at + 1))
+    by-step : (s : Next) → step is k v ≡ s → ((js : List Item) → all_at_most 255 (least js) ≡ true → walk js (xs ++ ys) (at + 1) ≡ breaks (at + 1 + n) → Completed js xs (at + 1))
         → Completed is (k ∷ (v ∷ xs)) at
     by-step stuck s ih =
         let same : at ≡ at + suc n = misfit-at at (at + suc n) (sym (stuck_at is k v (xs ++ ys) at s) ∙ e) in
         absurd (omega arith)
     by-step (on js) s ih =
         let place : at + suc n ≡ at + 1 + n = omega arith in
-        let further = ih js (fine-next is k v js s fine) (sym (on-from is k v (xs ++ ys) at js s) ∙ e ∙ ap listed.Misfit place) in
+        let further = ih js (fine-next is k v js s fine) (sym (on-from is k v (xs ++ ys) at js s) ∙ e ∙ ap breaks place) in
         record { rest = further.rest; fine = further.fine; done = on-from is k v (xs ++ further.rest) at js s ∙ further.done }
 
 -- with it, it can't
-cut : (n : ℕ) (is : List Item) (xs ys rest : List ℕ) (at : ℕ) → length xs ≡ 2 * n + 2 → walk is (xs ++ ys) at ≡ listed.Misfit (at + n) → walk is (xs ++ rest) at ≡ listed.Misfit (at + n)
+cut : (n : ℕ) (is : List Item) (xs ys rest : List ℕ) (at : ℕ) → length xs ≡ 2 * n + 2 → walk is (xs ++ ys) at ≡ breaks (at + n) → walk is (xs ++ rest) at ≡ breaks (at + n)
 cut n is [] ys rest at size e = absurd (omega arith)
 cut n is (x ∷ []) ys rest at size e = absurd (omega arith)
 cut zero is (k ∷ (v ∷ xs)) ys rest at size e = by-step (step is k v) refl where
-  by-step : (s : Next) → step is k v ≡ s → walk is (k ∷ (v ∷ (xs ++ rest))) at ≡ listed.Misfit (at + 0)
+  by-step : (s : Next) → step is k v ≡ s → walk is (k ∷ (v ∷ (xs ++ rest))) at ≡ breaks (at + 0)
   by-step stuck s = stuck_at is k v (xs ++ rest) at s ∙ sym (stuck_at is k v (xs ++ ys) at s) ∙ e
   by-step (on js) s =
       let further = placed js (xs ++ ys) (at + 1) (at + 0) (sym (on-from is k v (xs ++ ys) at js s) ∙ e) in
       absurd (omega (arith, further.low))
 cut (suc n) is (k ∷ (v ∷ xs)) ys rest at size e = by-step (step is k v) refl (λ js f. cut n js xs ys rest (at + 1) (omega arith) f) where
-  by-step : (s : Next) → step is k v ≡ s → ((js : List Item) → walk js (xs ++ ys) (at + 1) ≡ listed.Misfit (at + 1 + n) → walk js (xs ++ rest) (at + 1) ≡ listed.Misfit (at + 1 + n))
-      → walk is (k ∷ (v ∷ (xs ++ rest))) at ≡ listed.Misfit (at + suc n)
+  by-step : (s : Next) → step is k v ≡ s → ((js : List Item) → walk js (xs ++ ys) (at + 1) ≡ breaks (at + 1 + n) → walk js (xs ++ rest) (at + 1) ≡ breaks (at + 1 + n))
+      → walk is (k ∷ (v ∷ (xs ++ rest))) at ≡ breaks (at + suc n)
   by-step stuck s ih =
       let same : at ≡ at + suc n = misfit-at at (at + suc n) (sym (stuck_at is k v (xs ++ ys) at s) ∙ e) in
       absurd (omega arith)
   by-step (on js) s ih =
       let place : at + suc n ≡ at + 1 + n = omega arith in
       on-from is k v (xs ++ rest) at js s
-      ∙ ih js (sym (on-from is k v (xs ++ ys) at js s) ∙ e ∙ ap listed.Misfit place)
-      ∙ sym (ap listed.Misfit place)
+      ∙ ih js (sym (on-from is k v (xs ++ ys) at js s) ∙ e ∙ ap breaks place)
+      ∙ sym (ap breaks place)
 
 bytes-joined : (xs ys : List ℕ) → ((i : ℕ) → get_or xs i 0 < 256) → ((i : ℕ) → get_or ys i 0 < 256) → (i : ℕ) → get_or (xs ++ ys) i 0 < 256
 bytes-joined [] ys f g i = g i
@@ -309,7 +304,7 @@ bytes-taken (suc n) [] f i = omega arith
 bytes-taken (suc n) (x ∷ ts) f zero = f zero
 bytes-taken (suc n) (x ∷ ts) f (suc i) = bytes-taken n ts (λ j. f (suc j)) i
 
-split-walk : (n : ℕ) (trace : List ℕ) (p : ℕ) → first_misfit trace ≡ listed.Misfit p → walk [] (take n trace ++ drop n trace) 0 ≡ listed.Misfit (0 + p)
+split-walk : (n : ℕ) (trace : List ℕ) (p : ℕ) → first_misfit trace ≡ breaks p → walk [] (take n trace ++ drop n trace) 0 ≡ breaks (0 + p)
 split-walk n trace p e =
     let place : 0 + p ≡ p = omega arith in
     rw (take-append-drop n trace, place) (sym (walk_start trace) ∙ e)
@@ -325,7 +320,7 @@ named-by-first trace p b e =
       last = λ w. never-jobs p (sym e ∙ whole-are-jobs trace w);
     }
   where
-    beginning-of : (trace : List ℕ) (p : ℕ) → AllBytes trace → first_misfit trace ≡ listed.Misfit p → 2 * p ≤ length trace → Beginning (take (2 * p) trace)
+    beginning-of : (trace : List ℕ) (p : ℕ) → AllBytes trace → first_misfit trace ≡ breaks p → 2 * p ≤ length trace → Beginning (take (2 * p) trace)
     beginning-of trace p b e inside =
         let c = completed p [] (take (2 * p) trace) (drop (2 * p) trace) 0 (length-take-le (2 * p) trace inside) none-fine (split-walk (2 * p) trace p e) in
         record {
@@ -336,7 +331,7 @@ named-by-first trace p b e =
               (walk_start (take (2 * p) trace ++ c.rest) ∙ c.done);
         }
 
-    broken : (trace : List ℕ) (p : ℕ) → first_misfit trace ≡ listed.Misfit p → 2 * p + 2 ≤ length trace → Beginning (take (2 * p + 2) trace) → ⊥
+    broken : (trace : List ℕ) (p : ℕ) → first_misfit trace ≡ breaks p → 2 * p + 2 ≤ length trace → Beginning (take (2 * p + 2) trace) → ⊥
     broken trace p e h g =
         let still = cut p [] (take (2 * p + 2) trace) (drop (2 * p + 2) trace) g.rest 0 (length-take-le (2 * p + 2) trace h) (split-walk (2 * p + 2) trace p e) in
         never-jobs (0 + p) (sym still ∙ sym (walk_start (take (2 * p + 2) trace ++ g.rest)) ∙ whole-are-jobs (take (2 * p + 2) trace ++ g.rest) g.whole)

@@ -1,12 +1,9 @@
 -- What holds between the writer and the reader of jobs (document 02, A5).
-use Rattle.std.specs.Prelude.{ℕ, zero, suc, ◌+◌, ◌*◌, ◌/◌, ◌≤◌, ◌<◌, ◌≡◌, Bool, true, false, ◌&&◌, not, List, [], ◌∷◌, ◌++◌, length, take, drop, get_or}
+use Rattle.std.specs.Prelude.{ℕ, zero, suc, ◌+◌, ◌*◌, ◌/◌, ◌≤◌, ◌<◌, ◌≡◌, Bool, true, false, ◌&&◌, not, List, [], ◌∷◌, ◌++◌, length, take, drop, get_or, Ok, Err}
 use Rattle.jobs.specs.declared.Job.{Job}
 use Rattle.jobs.specs.declared.Job.TheVariants.{Read, ReadOut, Program, Erase, Status}
-use Rattle.jobs.specs.declared.writing.Answer.TheVariants.{Written}
-use Rattle.jobs.specs.declared.reading.Found.TheVariants.{Whole}
-use Rattle.jobs.specs.declared.reading.Listed.TheVariants.{Jobs, Misfit}
 use Rattle.jobs.specs.Writing.{too_wide, records_of, wrote_of}
-use Rattle.jobs.specs.Reading.{is_kind, job_at, first_misfit}
+use Rattle.jobs.specs.Reading.{misfit, whole, is_kind, job_at, first_misfit}
 
 -- every byte of a list is one
 pub record AllBytes (ts : List ℕ) : Type 0 where
@@ -46,14 +43,14 @@ data_of (Status r n) bytes = []
 -- Written and read. A job written behind other records, into any room, is found there: the same job, the place after
 -- it, and a program's bytes. (All data out belongs to the read-out or status before it, so none may follow by chance.)
 pub record ReadBack (before room : List ℕ) (p : ℕ) (j : Job) (bytes : List ℕ) (n : ℕ) (new : List ℕ) : Type 0 where
-  pub found : job_at (before ++ new) p ≡ Whole j (data_place j p) (data_count j bytes) (p + n / 2)
+  pub found : job_at (before ++ new) p ≡ whole j (data_place j p) (data_count j bytes) (p + n / 2)
   pub given : data_at (before ++ new) (data_place j p) (data_count j bytes) ≡ data_of j bytes
 
 abbrev pub WrittenAndRead : Type 0
 WrittenAndRead =
     (before : List ℕ) (p : ℕ) (j : Job) (bytes room : List ℕ) (n : ℕ) (new : List ℕ)
     → length before ≡ 2 * p
-    → wrote_of j bytes room ≡ record { answer = Written n; room = new }
+    → wrote_of j bytes room ≡ record { answer = Ok n; room = new }
     → is_kind 3 (drop n new) ≡ false
     → ReadBack before room p j bytes n new
 
@@ -67,7 +64,7 @@ abbrev pub ReadAndWritten : Type 0
 ReadAndWritten =
     (trace : List ℕ) (at : ℕ) (j : Job) (d n next : ℕ)
     → AllBytes trace
-    → job_at trace at ≡ Whole j d n next
+    → job_at trace at ≡ whole j d n next
     → WrittenAgain trace at j (data_at trace d n) next
 
 -- Lists of whole jobs, none of them too wide.
@@ -102,10 +99,10 @@ pub record FirstMisfit (trace : List ℕ) (p : ℕ) : Type 0 where
   pub last : WholeJobs trace → ⊥
 
 abbrev pub NamedByFirst : Type 0
-NamedByFirst = (trace : List ℕ) (p : ℕ) → AllBytes trace → first_misfit trace ≡ Misfit p → FirstMisfit trace p
+NamedByFirst = (trace : List ℕ) (p : ℕ) → AllBytes trace → first_misfit trace ≡ Err (misfit p) → FirstMisfit trace p
 
 abbrev pub JobsAreWhole : Type 0
-JobsAreWhole = (trace : List ℕ) → AllBytes trace → first_misfit trace ≡ Jobs → WholeJobs trace
+JobsAreWhole = (trace : List ℕ) → AllBytes trace → first_misfit trace ≡ Ok tt → WholeJobs trace
 
 abbrev pub WholeAreJobs : Type 0
-WholeAreJobs = (trace : List ℕ) → WholeJobs trace → first_misfit trace ≡ Jobs
+WholeAreJobs = (trace : List ℕ) → WholeJobs trace → first_misfit trace ≡ Ok tt

@@ -16,11 +16,10 @@ use Rattle.target.specs.declared.First.{First}
 use Rattle.target.specs.declared.Second.{Second}
 use Rattle.target.specs.declared.commands.Looks.{Looks}
 use Rattle.target.specs.declared.commands.Looks.TheVariants as looks
-use Rattle.target.specs.declared.commands.SecondFound.{SecondFound}
-use Rattle.target.specs.declared.commands.SecondFound.TheVariants as second
 use Rattle.target.proofs.Both.{both}
 use Rattle.target.proofs.Firsts.{each_first, each-end}
 use Rattle.effects.specs.Effects.{is_move}
+use Rattle.std.specs.Prelude.{None, Option, Some}
 
 -- where a is so, b is
 abbrev implied : Bool → Bool → Bool
@@ -68,18 +67,18 @@ data-outside f h = not-true (in_page f) (modus (is_data (then_of f)) (not (in_pa
 
 -- The second command that a first one waits for.
 
-abbrev starts_found : SecondFound → Bool
-starts_found second.Nothing = false
-starts_found (second.Found s) = (second_row s).starts
+abbrev starts_found : Option Second → Bool
+starts_found None = false
+starts_found (Some s) = (second_row s).starts
 
-abbrev moves_found : SecondFound → Bool
-moves_found second.Nothing = false
-moves_found (second.Found s) = is_move (second_row s).act
+abbrev moves_found : Option Second → Bool
+moves_found None = false
+moves_found (Some s) = is_move (second_row s).act
 
-abbrev starts_rowed : First → SecondFound → Bool
+abbrev starts_rowed : First → Option Second → Bool
 starts_rowed f k = implied (waits_second f && starts_found k) (takes_row f)
 
-abbrev never_moves : First → SecondFound → Bool
+abbrev never_moves : First → Option Second → Bool
 never_moves f k = implied (waits_second f) (not (moves_found k))
 
 starts_test : (f : First) (v : ℕ) → ends_with f v ≡ true → starts_rowed f (second_of v) ≡ true
@@ -90,12 +89,12 @@ moves-test : (f : First) (v : ℕ) → ends_with f v ≡ true → never_moves f 
 unfolding row_of second_of second_row
 moves-test f v h = each-end never_moves refl f v h
 
-module _ (f : First) (waits : waits_second f ≡ true) (v : ℕ) (fits : ends_with f v ≡ true) (s : Second) (told : second_of v ≡ second.Found s) where
+module _ (f : First) (waits : waits_second f ≡ true) (v : ℕ) (fits : ends_with f v ≡ true) (s : Second) (told : second_of v ≡ Some s) where
   pub starts-rowed : (second_row s).starts ≡ true → takes_row f ≡ true
   starts-rowed h =
       modus (waits_second f && starts_found (second_of v)) (takes_row f) (starts_test f v fits) (rw (waits, told) h)
 
   pub never-moves : not (is_move (second_row s).act) ≡ true
   never-moves =
-      subst (λ (x : SecondFound). not (moves_found x) ≡ true) told
+      subst (λ (x : Option Second). not (moves_found x) ≡ true) told
       (modus (waits_second f) (not (moves_found (second_of v))) (moves-test f v fits) waits)

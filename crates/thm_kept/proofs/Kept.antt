@@ -18,8 +18,6 @@ use Rattle.target.specs.declared.Event.{Event}
 use Rattle.target.specs.declared.Decoder.{Decoder}
 use Rattle.target.specs.declared.Target.{Target}
 use Rattle.target.specs.declared.Findings.{Findings}
-use Rattle.target.specs.declared.Verdict.{Verdict}
-use Rattle.target.specs.declared.Verdict.TheVariants as verdicts
 use Rattle.target.proofs.Both.{both, neither, meant}
 use Rattle.target.proofs.Limits.{limits}
 use Rattle.rules.specs.Rules.{beyond, data_ended, output_ended, unoffered, out_of_range, not_offered, past_end, not_working, verdict}
@@ -36,6 +34,8 @@ use Rattle.thm_kept.proofs.Sequences.{sequence-kept}
 use Rattle.thm_kept.proofs.Outputs.{output-kept, memory_kept, selected-kept}
 use Rattle.thm_kept.proofs.Marks.{marks-kept}
 use Rattle.thm_kept.proofs.Lengths.{array-length, registers-length, counts-length}
+use Rattle.std.specs.Prelude.{Err, Ok, Result}
+use Rattle.target.specs.declared.Refusal.{Refusal}
 
 -- a record with sound parts is sound
 pub all_sound : (t : Target) → t.powered ≡ true → in_limits t.geometry ≡ true → words_sound t.geometry t.words ≡ true → t.selected < t.geometry.luns → marks_sound t.geometry t.luns ≡ true → sequence_sound t.geometry t.decoder.sequence ≡ true → output_sound t.geometry t.decoder.output ≡ true → kept_sound t.geometry t.decoder.kept ≡ true → record_sound t ≡ true
@@ -120,7 +120,7 @@ refit t n params b c flags h k same x y z =
     (rw (same, x, y, z) rest)
 
 module _ (t : Target) (e : Event) (params : List ℕ) (b : Buffers) (flags : List ℕ) (h : Fit t params b flags) where
-  fit-accepted : verdict t e ≡ verdicts.Accepted → (found : Findings) → found ≡ findings t.geometry t.words t.decoder.sequence e b.counts flags → Fit (accepted_by t e params b found).target params (accepted_by t e params b found).buffers flags
+  fit-accepted : verdict t e ≡ (Ok tt) → (found : Findings) → found ≡ findings t.geometry t.words t.decoder.sequence e b.counts flags → Fit (accepted_by t e params b found).target params (accepted_by t e params b found).buffers flags
   unfolding accepted_by worked target_after
   fit-accepted v found told =
       let u = passes t params b.array b.registers b.counts flags h in
@@ -132,10 +132,10 @@ module _ (t : Target) (e : Event) (params : List ℕ) (b : Buffers) (flags : Lis
       (registers-length g b.array b.registers b.counts u.sizes w ready)
       (counts-length g b.array b.registers b.counts u.sizes w ready)
 
-  fit-verdict : (v : Verdict) → verdict t e ≡ v → Fit (by_verdict v t e params b flags).target params (by_verdict v t e params b flags).buffers flags
+  fit-verdict : (v : Result Unit Refusal) → verdict t e ≡ v → Fit (by_verdict v t e params b flags).target params (by_verdict v t e params b flags).buffers flags
   unfolding by_verdict accepted target_refused
-  fit-verdict verdicts.Accepted told = fit-accepted told _ refl
-  fit-verdict (verdicts.Refused r) told =
+  fit-verdict (Ok tt) told = fit-accepted told _ refl
+  fit-verdict (Err r) told =
       let u = passes t params b.array b.registers b.counts flags h in
       refit t (target_refused t e) params b b flags h (refused-sound t e u.record-sound) refl refl refl refl
 

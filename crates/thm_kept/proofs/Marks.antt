@@ -23,8 +23,6 @@ use Rattle.target.specs.declared.Findings.{Findings}
 use Rattle.target.specs.declared.Sequence.{Sequence}
 use Rattle.target.specs.declared.views.Given.{Given}
 use Rattle.target.specs.declared.views.Given.TheVariants as given
-use Rattle.target.specs.declared.views.Ender.{Ender}
-use Rattle.target.specs.declared.views.Ender.TheVariants as ender
 use Rattle.target.specs.declared.commands.Act.{Act}
 use Rattle.target.specs.declared.commands.Act.TheVariants as act
 use Rattle.target.proofs.Both.{both, both4}
@@ -33,6 +31,8 @@ use Rattle.lun_records.specs.LunsAfter.{one_more, blank_after, ended_luns, addre
 use Rattle.step.specs.Usable.{sequence_sound, mark_sound, marks_sound}
 use Rattle.thm_kept.proofs.Choice.{by-pick, and-true}
 use Rattle.thm_kept.proofs.Views.{row_named, Completes, completes, Ending, ends}
+use Rattle.std.specs.Prelude.{None, Option, Some}
+use Rattle.target.specs.declared.views.Ended.{Ended}
 
 -- what holds of the record that is stored and of every old one holds of every new one
 set-or : (P : Lun → Type 0) (luns : List Lun) (i l : ℕ) (x : Lun) → P x → P (lun_at luns l) → P (lun_at (set luns i x) l)
@@ -121,23 +121,23 @@ module _ (g : Geometry) where
       by-pick (λ (m : ℕ). m ≤ g.blocks) (says.proceeds && not says.blank) _ _ (λ _. more_within n h) (λ _. h)
   after-within act.Move says n h = h
 
-  ended-sound : (luns : List Lun) (found : Ender) (says : Findings) → g.luns ≤ 4 → Ending g found → marks_sound g luns ≡ true → marks_sound g (ended_luns g luns found says) ≡ true
-  ended-sound luns ender.Nothing says four h k = k
-  ended-sound luns (ender.By e) says four h k =
+  ended-sound : (luns : List Lun) (found : Option Ended) (says : Findings) → g.luns ≤ 4 → Ending g found → marks_sound g luns ≡ true → marks_sound g (ended_luns g luns found says) ≡ true
+  ended-sound luns None says four h k = k
+  ended-sound luns (Some e) says four h k =
       by-pick (λ (x : List Lun). marks_sound g x ≡ true) (second_row e.second).starts _ _
       (λ is. marks-set luns (lun_of g e.row) _ (h.starts is)
       (after-within (second_row e.second).act says _ (marks-within luns (lun_of g e.row) (h.starts is) four k)) k)
       (λ _. k)
 
   -- a row that closes a copyback names a LUN that exists
-  addressed-sound : (luns : List Lun) (x : Given) → g.luns ≤ 4 → Completes g x → beyond g x ≡ false → marks_sound g luns ≡ true
+  addressed-sound : (luns : List Lun) (x : Option Given) → g.luns ≤ 4 → Completes g x → beyond g x ≡ false → marks_sound g luns ≡ true
       → marks_sound g (addressed_luns g luns x) ≡ true
-  addressed-sound luns given.Nothing four h near k = k
-  addressed-sound luns (given.Column c) four h near k = k
-  addressed-sound luns (given.Row r) four h near k =
+  addressed-sound luns None four h near k = k
+  addressed-sound luns (Some (given.Column c)) four h near k = k
+  addressed-sound luns (Some (given.Row r)) four h near k =
       let named = row_named g r.first r.row h (not-false (row_fits g r.first r.row) near) in
       by-pick (λ (x : List Lun). marks_sound g x ≡ true) (closes_copyback r.first) _ _ (λ _. marks-set luns _ _ named (marks-within luns _ named four k) k) (λ _. k)
-  addressed-sound luns (given.Single v) four h near k = k
+  addressed-sound luns (Some (given.Single v)) four h near k = k
 
   pub marks-kept : (luns : List Lun) (s : Sequence) (e : Event) (says : Findings) → g.luns ≤ 4 → sequence_sound g s ≡ true → marks_sound g luns ≡ true
       → (eqb e.kind 1 ≡ true → beyond g (completed s e.value) ≡ false)

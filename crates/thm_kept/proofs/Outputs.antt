@@ -20,14 +20,10 @@ use Rattle.target.specs.declared.Output.{Output}
 use Rattle.target.specs.declared.Output.TheVariants as output
 use Rattle.target.specs.declared.commands.Then.{Then}
 use Rattle.target.specs.declared.commands.Then.TheVariants as then
-use Rattle.target.specs.declared.commands.FirstFound.{FirstFound}
-use Rattle.target.specs.declared.commands.FirstFound.TheVariants as first
 use Rattle.target.specs.declared.views.RowGiven.{RowGiven}
 use Rattle.target.specs.declared.views.Given.{Given}
 use Rattle.target.specs.declared.views.Given.TheVariants as given
 use Rattle.target.specs.declared.views.Ended.{Ended}
-use Rattle.target.specs.declared.views.Ender.{Ender}
-use Rattle.target.specs.declared.views.Ender.TheVariants as ender
 use Rattle.target.proofs.Both.{both}
 use Rattle.rules.specs.Rules.{row_fits, beyond, output_ended}
 use Rattle.effects.specs.Effects.{ended_lun, ended_place, ended_output, shown, first_output, command_output, addressed_output, advanced, output_after, row_selects, selected_after}
@@ -35,6 +31,8 @@ use Rattle.memory.specs.Memory.{remembered, first_kept, row_kept, kept_after}
 use Rattle.step.specs.Usable.{sequence_sound, output_sound, kept_sound}
 use Rattle.thm_kept.proofs.Choice.{by-pick, and-true}
 use Rattle.thm_kept.proofs.Views.{row_named, Completes, completes, Ends, Ending, ends}
+use Rattle.std.specs.Prelude.{None, Option, Some}
+use Rattle.target.specs.declared.First.{First}
 
 module _ (g : Geometry) where
   abbrev Sound : Output → Type 0
@@ -53,9 +51,9 @@ module _ (g : Geometry) where
   module _ (selected : ℕ) (one : selected < g.luns) where
     -- A command.
 
-    first-sound : (found : FirstFound) → Sound (first_output selected found)
-    first-sound first.Nothing = refl
-    first-sound (first.Found f) =
+    first-sound : (found : Option First) → Sound (first_output selected found)
+    first-sound None = refl
+    first-sound (Some f) =
         by-pick Sound (eqb (cycles_of f) 0) _ _ (λ _. shown-sound (then_of f) selected 0 output.Nothing one refl) (λ _. refl)
 
     place-sound : (k : Ended) → Ends g k → Sound (ended_place g selected k)
@@ -65,9 +63,9 @@ module _ (g : Geometry) where
         (λ is. le-leb k.column.0 768 (subst (λ (b : Bool). k.column.0 ≤ column_end g b) is h.column))
         (λ no. and-true (ltb (ended_lun g selected k) g.luns) (leb k.column.0 (page_size g)) (lt-ltb _ _ named) (le-leb _ _ (subst (λ (b : Bool). k.column.0 ≤ column_end g b) no h.column)))
 
-    ended-sound : (found : Ender) → Ending g found → Sound (ended_output g selected found)
-    ended-sound ender.Nothing h = refl
-    ended-sound (ender.By k) h = by-pick Sound (second_row k.second).shows _ _ (λ _. place-sound k h) (λ _. refl)
+    ended-sound : (found : Option Ended) → Ending g found → Sound (ended_output g selected found)
+    ended-sound None h = refl
+    ended-sound (Some k) h = by-pick Sound (second_row k.second).shows _ _ (λ _. place-sound k h) (λ _. refl)
 
     command-sound : (s : Sequence) (v : ℕ) → sequence_sound g s ≡ true → Sound (command_output g selected s v)
     command-sound s v h =
@@ -76,21 +74,21 @@ module _ (g : Geometry) where
     -- An address cycle.
 
     -- a row that is whole and in range names a LUN that exists
-    given-lun : (k : RowGiven) → takes_row k.first ≡ true → beyond g (given.Row k) ≡ false → lun_of g k.row < g.luns
+    given-lun : (k : RowGiven) → takes_row k.first ≡ true → beyond g (Some (given.Row k)) ≡ false → lun_of g k.row < g.luns
     given-lun k t near = row_named g k.first k.row t (not-false (row_fits g k.first k.row) near)
 
-    addressed-sound : (k : Given) (o : Output) → Completes g k → beyond g k ≡ false → Sound o → Sound (addressed_output g k o)
-    addressed-sound given.Nothing o h near s = s
-    addressed-sound (given.Column k) o h near s = s
-    addressed-sound (given.Row k) o h near s = shown-sound (then_of k.first) (lun_of g k.row) 0 o (given-lun k h near) s
-    addressed-sound (given.Single k) o h near s = shown-sound (then_of k.first) 0 k.value o (omega (arith, one)) s
+    addressed-sound : (k : Option Given) (o : Output) → Completes g k → beyond g k ≡ false → Sound o → Sound (addressed_output g k o)
+    addressed-sound None o h near s = s
+    addressed-sound (Some (given.Column k)) o h near s = s
+    addressed-sound (Some (given.Row k)) o h near s = shown-sound (then_of k.first) (lun_of g k.row) 0 o (given-lun k h near) s
+    addressed-sound (Some (given.Single k)) o h near s = shown-sound (then_of k.first) 0 k.value o (omega (arith, one)) s
 
     -- it selects that LUN
-    selects : (k : Given) → Completes g k → beyond g k ≡ false → row_selects g selected k < g.luns
-    selects given.Nothing h near = one
-    selects (given.Column k) h near = one
-    selects (given.Row k) h near = given-lun k h near
-    selects (given.Single k) h near = one
+    selects : (k : Option Given) → Completes g k → beyond g k ≡ false → row_selects g selected k < g.luns
+    selects None h near = one
+    selects (Some (given.Column k)) h near = one
+    selects (Some (given.Row k)) h near = given-lun k h near
+    selects (Some (given.Single k)) h near = one
 
   -- Data out: one place further, where the end has not come.
 
@@ -132,18 +130,18 @@ module _ (g : Geometry) where
       by-pick KeptSound (shows_status d.output) _ _ (λ _. k)
       (λ no. and-true (output_sound g d.output) (not (shows_status d.output)) h (rw (no)))
 
-  first-kept-sound : (d : Decoder) (found : FirstFound) → Sound d.output → KeptSound d.kept → KeptSound (first_kept d found)
-  first-kept-sound d first.Nothing h k = refl
-  first-kept-sound d (first.Found f) h k =
+  first-kept-sound : (d : Decoder) (found : Option First) → Sound d.output → KeptSound d.kept → KeptSound (first_kept d found)
+  first-kept-sound d None h k = refl
+  first-kept-sound d (Some f) h k =
       by-pick KeptSound (gives_status f) _ _ (λ _. remembered-sound d h k)
       (λ _. by-pick KeptSound (eqb (byte_of f) 0x00 && shows_status d.output) _ _ (λ _. k) (λ _. refl))
 
-  row-kept-sound : (found : Given) (o : Output) → KeptSound o → KeptSound (row_kept g found o)
-  row-kept-sound given.Nothing o k = k
-  row-kept-sound (given.Column c) o k = k
-  row-kept-sound (given.Row r) o k =
+  row-kept-sound : (found : Option Given) (o : Output) → KeptSound o → KeptSound (row_kept g found o)
+  row-kept-sound None o k = k
+  row-kept-sound (Some (given.Column c)) o k = k
+  row-kept-sound (Some (given.Row r)) o k =
       by-pick KeptSound (gives_status r.first && not (is_register_of (lun_of g r.row) o)) _ _ (λ _. refl) (λ _. k)
-  row-kept-sound (given.Single c) o k = k
+  row-kept-sound (Some (given.Single c)) o k = k
 
   pub memory_kept : (d : Decoder) (e : Event) → output_sound g d.output ≡ true → kept_sound g d.kept ≡ true → kept_sound g (kept_after g d e) ≡ true
   unfolding kept_after

@@ -27,12 +27,8 @@ use Rattle.target.specs.declared.Sequence.{Sequence}
 use Rattle.target.specs.declared.Sequence.TheVariants.{Idle, Columns, Rows, Single, Due, Filling, Moving, Setting}
 use Rattle.target.specs.declared.commands.Then.{Then}
 use Rattle.target.specs.declared.commands.Then.TheVariants as then
-use Rattle.target.specs.declared.commands.FirstFound.{FirstFound}
-use Rattle.target.specs.declared.commands.FirstFound.TheVariants as first
 use Rattle.target.specs.declared.views.Taker.{Taker}
 use Rattle.target.specs.declared.views.Taker.TheVariants as taker
-use Rattle.target.specs.declared.views.Ender.{Ender}
-use Rattle.target.specs.declared.views.Ender.TheVariants as ender
 use Rattle.target.proofs.Both.{both, both3}
 use Rattle.rules.specs.Rules.{row_fits, beyond, data_ended, unoffered}
 use Rattle.effects.specs.Effects.{started, opened, is_move, ended_sequence, commanded, followed, column_given, addressed, filled, sequence_after}
@@ -40,6 +36,8 @@ use Rattle.step.specs.Usable.{column_held, row_held, sequence_sound}
 use Rattle.thm_kept.proofs.Choice.{by-pick, and-true, one_of_two, two-of-three, below-at-most}
 use Rattle.thm_kept.proofs.Commands.{data-row, data-outside}
 use Rattle.thm_kept.proofs.Views.{column-most, page-looked, taker_sound, taker-sound, Ending, ends}
+use Rattle.std.specs.Prelude.{None, Option, Some}
+use Rattle.target.specs.declared.views.Ended.{Ended}
 
 module _ (g : Geometry) where
   abbrev Sound : Sequence → Type 0
@@ -55,13 +53,13 @@ module _ (g : Geometry) where
       (λ is. and-true (takes_row f && true) (column_held g f (record { 0 = 0 })) (and-true (takes_row f) true is refl) (rw (no)))
       (λ _. by-pick Sound (eqb (cycles_of f) 1) _ _ (λ is. is) (λ _. refl)))
 
-  opened-sound : (found : FirstFound) → Sound (opened found)
-  opened-sound first.Nothing = refl
-  opened-sound (first.Found f) = started-sound f
+  opened-sound : (found : Option First) → Sound (opened found)
+  opened-sound None = refl
+  opened-sound (Some f) = started-sound f
 
-  ended-sound : (found : Ender) → Ending g found → Sound (ended_sequence found)
-  ended-sound ender.Nothing h = refl
-  ended-sound (ender.By k) h =
+  ended-sound : (found : Option Ended) → Ending g found → Sound (ended_sequence found)
+  ended-sound None h = refl
+  ended-sound (Some k) h =
       by-pick Sound (is_move (second_row k.second).act) _ _
       (λ is. and-true (takes_program_data k.first && true) (row_exists g k.row) (and-true (takes_program_data k.first) true (h.moves is).0 refl) (h.moves is).1)
       (λ _. refl)
@@ -158,16 +156,16 @@ module _ (g : Geometry) where
   feature-byte false true false d h = absurd (false≢true (sym h))
   feature-byte false false c d h = absurd (false≢true (sym h))
 
-  filled-sound : (w : Words) (s : Sequence) (k : Taker) (v : ℕ) → Sound s → taker_sound g k ≡ true → data_ended g k ≡ false → unoffered w k v ≡ false → Sound (filled s k v)
-  filled-sound w s taker.Nothing v h t more fine = h
-  filled-sound w s (taker.Program k) v h t more fine =
+  filled-sound : (w : Words) (s : Sequence) (k : Option Taker) (v : ℕ) → Sound s → taker_sound g k ≡ true → data_ended g k ≡ false → unoffered w k v ≡ false → Sound (filled s k v)
+  filled-sound w s None v h t more fine = h
+  filled-sound w s (Some (taker.Program k)) v h t more fine =
       let opener = takes_program_data k.first in
       let p = both3 opener (leb k.at.0 (page_size g)) (row_exists g k.row) t in
       and-true (opener && leb (k.at.0 + 1) (page_size g)) (row_exists g k.row)
       (and-true opener (leb (k.at.0 + 1) (page_size g)) p.0
       (le-leb (k.at.0 + 1) (page_size g) (omega (arith, leb-false (page_size g) k.at.0 more))))
       p.2
-  filled-sound w s (taker.Feature k) v h t more fine =
+  filled-sound w s (Some (taker.Feature k)) v h t more fine =
       let p = both (ltb k.got 4) (eqb k.value 0 || eqb k.value 0x40) t in
       by-pick Sound (eqb k.got 0) _ _ (λ _. feature-byte (eqb v 0) (eqb k.got 0) (eqb v 0x40) (has_feature w 8) fine)
       (λ _. by-pick Sound (eqb k.got 1) _ _ (λ _. p.1)

@@ -25,15 +25,11 @@ use Rattle.target.specs.declared.Sequence.{Sequence}
 use Rattle.target.specs.declared.Sequence.TheVariants.{Idle, Columns, Rows, Single, Due, Filling, Moving, Setting}
 use Rattle.target.specs.declared.commands.Looks.{Looks}
 use Rattle.target.specs.declared.commands.Looks.TheVariants as looks
-use Rattle.target.specs.declared.commands.SecondFound.{SecondFound}
-use Rattle.target.specs.declared.commands.SecondFound.TheVariants as second
 use Rattle.target.specs.declared.views.Given.{Given}
 use Rattle.target.specs.declared.views.Given.TheVariants as given
 use Rattle.target.specs.declared.views.Taker.{Taker}
 use Rattle.target.specs.declared.views.Taker.TheVariants as taker
 use Rattle.target.specs.declared.views.Ended.{Ended}
-use Rattle.target.specs.declared.views.Ender.{Ender}
-use Rattle.target.specs.declared.views.Ender.TheVariants as ender
 use Rattle.target.proofs.Both.{both3}
 use Rattle.rules.specs.Rules.{exists, row_fits}
 use Rattle.effects.specs.Effects.{is_move}
@@ -41,6 +37,8 @@ use Rattle.step.specs.Usable.{column_held, row_held, sequence_sound}
 use Rattle.blocks.proofs.Places.{lun-below, block-there, row-lun}
 use Rattle.thm_kept.proofs.Choice.{by-pick, opposite}
 use Rattle.thm_kept.proofs.Commands.{looks_at_lun, looks_at_page, row-looks, data-outside, starts-rowed, never-moves}
+use Rattle.std.specs.Prelude.{None, Option, Some}
+use Rattle.target.specs.declared.Second.{Second}
 
 module _ (g : Geometry) where
   -- Columns and rows that are held.
@@ -72,31 +70,31 @@ module _ (g : Geometry) where
   -- What an address cycle completes.
 
   -- a whole row belongs to a command that takes one
-  abbrev pub Completes : Given → Type 0
-  Completes given.Nothing = Unit
-  Completes (given.Column k) = Unit
-  Completes (given.Row k) = takes_row k.first ≡ true
-  Completes (given.Single k) = Unit
+  abbrev pub Completes : Option Given → Type 0
+  Completes None = Unit
+  Completes (Some (given.Column k)) = Unit
+  Completes (Some (given.Row k)) = takes_row k.first ≡ true
+  Completes (Some (given.Single k)) = Unit
 
   pub completes : (s : Sequence) (v : ℕ) → sequence_sound g s ≡ true → Completes (completed s v)
   completes Idle v h = tt
-  completes (Columns k) v h = by-pick Completes (eqb k.got 1) _ given.Nothing (λ _. tt) (λ _. tt)
+  completes (Columns k) v h = by-pick Completes (eqb k.got 1) _ None (λ _. tt) (λ _. tt)
   completes (Rows k) v h =
-      by-pick Completes (eqb k.got 2) _ given.Nothing
+      by-pick Completes (eqb k.got 2) _ None
       (λ _. (both3 (takes_row k.first) (ltb k.got 3) (column_held g k.first k.column) h).0)
       (λ _. tt)
   completes (Single f) v h = tt
   completes (Due k) v h = tt
   completes (Filling k) v h = tt
-  completes (Moving k) v h = by-pick Completes (eqb k.got 1) _ given.Nothing (λ _. tt) (λ _. tt)
+  completes (Moving k) v h = by-pick Completes (eqb k.got 1) _ None (λ _. tt) (λ _. tt)
   completes (Setting k) v h = tt
 
   -- What takes data.
 
-  abbrev pub taker_sound : Taker → Bool
-  taker_sound taker.Nothing = true
-  taker_sound (taker.Program k) = sequence_sound g (Filling k)
-  taker_sound (taker.Feature k) = sequence_sound g (Setting k)
+  abbrev pub taker_sound : Option Taker → Bool
+  taker_sound None = true
+  taker_sound (Some (taker.Program k)) = sequence_sound g (Filling k)
+  taker_sound (Some (taker.Feature k)) = sequence_sound g (Setting k)
 
   pub taker-sound : (s : Sequence) → sequence_sound g s ≡ true → taker_sound (taking s) ≡ true
   taker-sound Idle h = refl
@@ -116,15 +114,15 @@ module _ (g : Geometry) where
     pub starts : (second_row k.second).starts ≡ true → lun_of g k.row < g.luns
     pub moves : is_move (second_row k.second).act ≡ true → (takes_program_data k.first ≡ true) × (row_exists g k.row ≡ true)
 
-  abbrev pub Ending : Ender → Type 0
-  Ending ender.Nothing = Unit
-  Ending (ender.By k) = Ends k
+  abbrev pub Ending : Option Ended → Type 0
+  Ending None = Unit
+  Ending (Some k) = Ends k
 
   -- the second command that a first one waits for
-  due-ends : (k : Wait) (v : ℕ) → sequence_sound g (Due k) ≡ true → ends_with k.first v ≡ true → (found : SecondFound)
+  due-ends : (k : Wait) (v : ℕ) → sequence_sound g (Due k) ≡ true → ends_with k.first v ≡ true → (found : Option Second)
       → second_of v ≡ found → Ending (ended_with found k.first k.column k.row)
-  due-ends k v h fits second.Nothing told = tt
-  due-ends k v h fits (second.Found s) told =
+  due-ends k v h fits None told = tt
+  due-ends k v h fits (Some s) told =
       let f = k.first in
       let p = both3 (waits_second f) (column_held g f k.column) (row_held g f k.row) h in
       let named : takes_row f ≡ true → lun_of g k.row < g.luns = λ is. row_named f k.row is (rw is at p).2 in
@@ -136,9 +134,9 @@ module _ (g : Geometry) where
       }
 
   -- 10h and 85h inside a program
-  filling-ends : (k : Fill) → sequence_sound g (Filling k) ≡ true → (found : SecondFound) → Ending (ended_with found k.first k.at k.row)
-  filling-ends k h second.Nothing = tt
-  filling-ends k h (second.Found s) =
+  filling-ends : (k : Fill) → sequence_sound g (Filling k) ≡ true → (found : Option Second) → Ending (ended_with found k.first k.at k.row)
+  filling-ends k h None = tt
+  filling-ends k h (Some s) =
       let p = both3 (takes_program_data k.first) (leb k.at.0 (page_size g)) (row_exists g k.row) h in
       let named = row-lun g k.row p.2 in
       record { column = rw (data-outside k.first p.0) (leb-true _ _ p.1); row = λ _. named; starts = λ _. named; moves = λ _. (p.0, p.2) }

@@ -20,21 +20,19 @@ use Rattle.target.specs.declared.Sequence.{Sequence}
 use Rattle.target.specs.declared.Sequence.TheVariants.{Idle}
 use Rattle.target.specs.declared.Output.{Output}
 use Rattle.target.specs.declared.Output.TheVariants as output
-use Rattle.target.specs.declared.commands.FirstFound.{FirstFound}
-use Rattle.target.specs.declared.commands.FirstFound.TheVariants as first
 use Rattle.target.specs.declared.commands.Waits.{Waits}
 use Rattle.target.specs.declared.commands.Waits.TheVariants as waits
 use Rattle.target.specs.declared.views.Given.{Given}
 use Rattle.target.specs.declared.views.Given.TheVariants as given
 use Rattle.target.specs.declared.views.Taker.{Taker}
 use Rattle.target.specs.declared.views.Taker.TheVariants as taker
-use Rattle.target.specs.declared.views.Ender.{Ender}
-use Rattle.target.specs.declared.views.Ender.TheVariants as ender
 use Rattle.target.proofs.Both.{both3}
 use Rattle.rules.specs.Rules.{fits}
 use Rattle.effects.specs.Effects.{sequence_after, output_after}
 use Rattle.jobs.specs.Cycles.{Cycle, command, address, data_in, data_out}
 use Rattle.thm_stations.specs.Jobs.{event_of}
+use Rattle.std.specs.Prelude.{None, Option, Some}
+use Rattle.target.specs.declared.views.Ended.{Ended}
 
 abbrev pub held : Sequence → Output → Output → Decoder
 held s o kept = record { sequence = s; output = o; kept = kept }
@@ -51,9 +49,9 @@ is_nobody waits.All = false
 abbrev pub aimed : First → Bool
 aimed f = is_nobody (waits_for f) && not (eqb (cycles_of f) 0)
 
-abbrev pub aimed_found : FirstFound → Bool
-aimed_found first.Nothing = true
-aimed_found (first.Found f) = aimed f
+abbrev pub aimed_found : Option First → Bool
+aimed_found None = true
+aimed_found (Some f) = aimed f
 
 -- a command byte that is no reset, nor 05h, which looks at the output, and if it is a first command, an aimed one
 abbrev pub plain : ℕ → Bool
@@ -70,22 +68,22 @@ plainly v h =
     record { no-reset = not-true _ p.0; no-page = not-true _ p.1; is-aimed = p.2 }
 
 -- a second command with a row of the l-th LUN
-unfoldable pub EndedOf : Geometry → ℕ → Ender → Type 0
-EndedOf g l ender.Nothing = Unit
-EndedOf g l (ender.By k) = (takes_row k.first ≡ true) × (lun_of g k.row ≡ l)
+unfoldable pub EndedOf : Geometry → ℕ → Option Ended → Type 0
+EndedOf g l None = Unit
+EndedOf g l (Some k) = (takes_row k.first ≡ true) × (lun_of g k.row ≡ l)
 
 -- an address that completes a row of the l-th LUN, or a column of which nothing is asked
-unfoldable pub GivenOf : Geometry → ℕ → Given → Type 0
-GivenOf g l given.Nothing = Unit
-GivenOf g l (given.Column k) = k.asks ≡ false
-GivenOf g l (given.Row k) = lun_of g k.row ≡ l
-GivenOf g l (given.Single k) = ⊥
+unfoldable pub GivenOf : Geometry → ℕ → Option Given → Type 0
+GivenOf g l None = Unit
+GivenOf g l (Some (given.Column k)) = k.asks ≡ false
+GivenOf g l (Some (given.Row k)) = lun_of g k.row ≡ l
+GivenOf g l (Some (given.Single k)) = ⊥
 
 -- data for a program of the l-th LUN
-unfoldable pub TakerOf : Geometry → ℕ → Taker → Type 0
-TakerOf g l taker.Nothing = Unit
-TakerOf g l (taker.Program k) = lun_of g k.row ≡ l
-TakerOf g l (taker.Feature k) = ⊥
+unfoldable pub TakerOf : Geometry → ℕ → Option Taker → Type 0
+TakerOf g l None = Unit
+TakerOf g l (Some (taker.Program k)) = lun_of g k.row ≡ l
+TakerOf g l (Some (taker.Feature k)) = ⊥
 
 -- output that is the l-th LUN's
 unfoldable pub OutputOf : ℕ → Output → Type 0

@@ -31,14 +31,10 @@ use Rattle.target.specs.declared.Reply.TheVariants as reply
 use Rattle.target.specs.declared.Work.TheVariants as work
 use Rattle.target.specs.declared.commands.Act.{Act}
 use Rattle.target.specs.declared.commands.Act.TheVariants as act
-use Rattle.target.specs.declared.commands.FirstFound.{FirstFound}
-use Rattle.target.specs.declared.commands.FirstFound.TheVariants as first
 use Rattle.target.specs.declared.views.Given.{Given}
 use Rattle.target.specs.declared.views.Given.TheVariants as given
 use Rattle.target.specs.declared.views.Taker.{Taker}
 use Rattle.target.specs.declared.views.Taker.TheVariants as taker
-use Rattle.target.specs.declared.views.Ender.{Ender}
-use Rattle.target.specs.declared.views.Ender.TheVariants as ender
 use Rattle.target.proofs.Both.{both}
 use Rattle.rules.specs.Rules.{fits, output_ended, past_end}
 use Rattle.effects.specs.Effects.{sequence_after, ended_output, first_output, command_output, output_after, clear_set, clear_after, high_after, target_after, acted, ended_work, first_work, command_work, address_work, data_work, work_of}
@@ -58,6 +54,9 @@ use Rattle.thm_stations.proofs.OwnWork.{Mine, count-alike, higher-alike, blank-a
 use Rattle.thm_stations.proofs.Records.{Changed, as-were, become-by, changed-pick}
 use Rattle.thm_stations.proofs.Halves.{Fixed, fixed_of, made, refixed}
 use Rattle.thm_stations.proofs.Course.{held, is_nobody, aimed_found, Plain, plainly, EndedOf, GivenOf, TakerOf, OutputOf, CycleOf, Course, Spared, spared-behind, sequence-any, fits-any, Standing, equal, Alike}
+use Rattle.std.specs.Prelude.{None, Option, Some}
+use Rattle.target.specs.declared.views.Ended.{Ended}
+use Rattle.target.specs.declared.First.{First}
 
 module _ (g : Geometry) (l : ℕ) where
   -- The work is the LUN's own.
@@ -75,15 +74,15 @@ module _ (g : Geometry) (l : ℕ) where
   acted-mine act.Erase r found q = by-pick (Mine g l) found.proceeds (work.Erase r) work.Nothing (λ _. q) (λ _. tt)
   acted-mine act.Move r found q = tt
 
-  ended-mine : (x : Ender) (found : Findings) → EndedOf g l x → Mine g l (ended_work x found)
+  ended-mine : (x : Option Ended) (found : Findings) → EndedOf g l x → Mine g l (ended_work x found)
   unfolding EndedOf
-  ended-mine ender.Nothing found w = nothing-mine
-  ended-mine (ender.By k) found w = acted-mine (second_row k.second).act k.row found w.1
+  ended-mine None found w = nothing-mine
+  ended-mine (Some k) found w = acted-mine (second_row k.second).act k.row found w.1
 
   -- with program-clear on a first command fills no register
-  first-mine : (clear : Bool) → clear ≡ true → (x : FirstFound) → Mine g l (first_work clear x)
-  first-mine clear on first.Nothing = nothing-mine
-  first-mine clear on (first.Found f) =
+  first-mine : (clear : Bool) → clear ≡ true → (x : Option First) → Mine g l (first_work clear x)
+  first-mine clear on None = nothing-mine
+  first-mine clear on (Some f) =
       by-pick (Mine g l) (clears_register f && not clear) work.ClearAll work.Nothing
       (λ h. absurd (false≢true (rw on at (both (clears_register f) (not clear) h).1)))
       (λ _. nothing-mine)
@@ -95,20 +94,20 @@ module _ (g : Geometry) (l : ℕ) where
       (λ _. ended-mine (ending s v) found w)
       (λ _. first-mine clear on (first_of v))
 
-  address-mine : (clear : Bool) (x : Given) → GivenOf g l x → Mine g l (address_work g clear x)
+  address-mine : (clear : Bool) (x : Option Given) → GivenOf g l x → Mine g l (address_work g clear x)
   unfolding GivenOf Mine
-  address-mine clear given.Nothing w = tt
-  address-mine clear (given.Column k) w = tt
-  address-mine clear (given.Row k) w =
+  address-mine clear None w = tt
+  address-mine clear (Some (given.Column k)) w = tt
+  address-mine clear (Some (given.Row k)) w =
       by-pick (Mine g l) (clears_register k.first && clear) (work.ClearOne (lun_of g k.row)) work.Nothing (λ _. w)
       (λ _. tt)
-  address-mine clear (given.Single k) w = tt
+  address-mine clear (Some (given.Single k)) w = tt
 
-  data-mine : (x : Taker) (v : ℕ) → TakerOf g l x → Mine g l (data_work g x v)
+  data-mine : (x : Option Taker) (v : ℕ) → TakerOf g l x → Mine g l (data_work g x v)
   unfolding TakerOf Mine
-  data-mine taker.Nothing v w = tt
-  data-mine (taker.Program k) v w = w
-  data-mine (taker.Feature k) v w = tt
+  data-mine None v w = tt
+  data-mine (Some (taker.Program k)) v w = w
+  data-mine (Some (taker.Feature k)) v w = tt
 
   pub work-mine : (clear : Bool) → clear ≡ true → (s : Sequence) (o : Output) (c : Cycle) (found : Findings)
       → CycleOf g l c s o → Mine g l (work_of g clear s (event_of c) found)
@@ -131,18 +130,18 @@ module _ (g : Geometry) (l : ℕ) where
     closed-changed : (m : ℕ) → m ≡ l → Changed l xs ys (set xs m (lun_closed (lun_at xs m))) (set ys m (lun_closed (lun_at ys m)))
     closed-changed m q = rw q (become-by lun_closed lun)
 
-    addressed-changed : (x : Given) → GivenOf g l x → Changed l xs ys (addressed_luns g xs x) (addressed_luns g ys x)
+    addressed-changed : (x : Option Given) → GivenOf g l x → Changed l xs ys (addressed_luns g xs x) (addressed_luns g ys x)
     unfolding GivenOf
-    addressed-changed given.Nothing w = as-were
-    addressed-changed (given.Column k) w = as-were
-    addressed-changed (given.Row k) w = changed-pick (closes_copyback k.first) (closed-changed (lun_of g k.row) w)
-    addressed-changed (given.Single k) w = as-were
+    addressed-changed None w = as-were
+    addressed-changed (Some (given.Column k)) w = as-were
+    addressed-changed (Some (given.Row k)) w = changed-pick (closes_copyback k.first) (closed-changed (lun_of g k.row) w)
+    addressed-changed (Some (given.Single k)) w = as-were
 
-    ended-changed : (x : Ender) (found : Findings) → EndedOf g l x
+    ended-changed : (x : Option Ended) (found : Findings) → EndedOf g l x
         → Changed l xs ys (ended_luns g xs x found) (ended_luns g ys x found)
     unfolding EndedOf
-    ended-changed ender.Nothing found w = as-were
-    ended-changed (ender.By k) found w =
+    ended-changed None found w = as-were
+    ended-changed (Some k) found w =
         changed-pick (second_row k.second).starts (begun-changed (lun_of g k.row) (not found.proceeds) (second_row k.second).opens (end_closes k)
         (second_row k.second).act found w.1)
 
@@ -157,14 +156,14 @@ module _ (g : Geometry) (l : ℕ) where
 
   -- The decoder, whatever LUN is selected and whatever was put out before.
 
-  ended-any : (x : Ender) (a b : ℕ) → EndedOf g l x → ended_output g a x ≡ ended_output g b x
+  ended-any : (x : Option Ended) (a b : ℕ) → EndedOf g l x → ended_output g a x ≡ ended_output g b x
   unfolding EndedOf
-  ended-any ender.Nothing a b w = refl
-  ended-any (ender.By k) a b w = rw w.0
+  ended-any None a b w = refl
+  ended-any (Some k) a b w = rw w.0
 
-  first_any : (x : FirstFound) (a b : ℕ) → aimed_found x ≡ true → first_output a x ≡ first_output b x
-  first_any first.Nothing a b h = refl
-  first_any (first.Found f) a b h =
+  first_any : (x : Option First) (a b : ℕ) → aimed_found x ≡ true → first_output a x ≡ first_output b x
+  first_any None a b h = refl
+  first_any (Some f) a b h =
       rw (not-true (eqb (cycles_of f) 0) (both (is_nobody (waits_for f)) (not (eqb (cycles_of f) 0)) h).1)
 
   command-any : (s : Sequence) (v a b : ℕ) → Plain v → EndedOf g l (ending s v)
@@ -233,11 +232,11 @@ module _ (g : Geometry) (l : ℕ) (flags : List ℕ) (B C : Buffers) (sizes : Si
   blank-found act.Erase r there q = block-alike r there q
   blank-found act.Move r there q = refl
 
-  ended-findings : (w : Words) (x : Ender) → EnderReaches g x → EndedOf g l x
+  ended-findings : (w : Words) (x : Option Ended) → EnderReaches g x → EndedOf g l x
       → ended_findings g w x B.counts flags ≡ ended_findings g w x C.counts flags
   unfolding EndedOf EnderReaches
-  ended-findings words ender.Nothing there w = refl
-  ended-findings words (ender.By k) there w =
+  ended-findings words None there w = refl
+  ended-findings words (Some k) there w =
       let a = (second_row k.second).act in
       λ j. record { proceeds = proceeds-alike words a k.row there w.1 j; blank = blank-found a k.row there w.1 j }
 
@@ -288,11 +287,11 @@ pub or-none : (a : Bool) {b : Bool} → b ≡ false → (a || b) ≡ a
 or-none true h = refl
 or-none false h = h
 
-clear_kept : (g : Geometry) (l : ℕ) (clear : Bool) (x : Taker) → TakerOf g l x → clear_set clear x ≡ clear
+clear_kept : (g : Geometry) (l : ℕ) (clear : Bool) (x : Option Taker) → TakerOf g l x → clear_set clear x ≡ clear
 unfolding TakerOf
-clear_kept g l clear taker.Nothing w = refl
-clear_kept g l clear (taker.Program k) w = refl
-clear_kept g l clear (taker.Feature k) w = absurd w
+clear_kept g l clear None w = refl
+clear_kept g l clear (Some (taker.Program k)) w = refl
+clear_kept g l clear (Some (taker.Feature k)) w = absurd w
 
 pub fixed_kept : (k : Fixed) (l a : ℕ) (xs : List Lun) (s : Sequence) (o p i : Output) (c : Cycle) (found : Findings)
     → CycleOf k.geometry l c s o → fixed_of (target_after (made k a xs (held s p i)) (event_of c) found) ≡ k

@@ -26,12 +26,7 @@ use Rattle.target.specs.declared.Sequence.{Sequence}
 use Rattle.target.specs.declared.Sequence.TheVariants.{Idle, Columns, Rows, Due, Filling}
 use Rattle.target.specs.declared.Output.{Output}
 use Rattle.target.specs.declared.Output.TheVariants as output
-use Rattle.target.specs.declared.commands.FirstFound.TheVariants as first
-use Rattle.target.specs.declared.commands.SecondFound.{SecondFound}
-use Rattle.target.specs.declared.commands.SecondFound.TheVariants as second
 use Rattle.target.specs.declared.commands.Then.TheVariants as then
-use Rattle.target.specs.declared.views.Ender.{Ender}
-use Rattle.target.specs.declared.views.Ender.TheVariants as ender
 use Rattle.target.proofs.Both.{both, other}
 use Rattle.target.proofs.Firsts.{each_first}
 use Rattle.rules.specs.Rules.{fits}
@@ -41,23 +36,26 @@ use Rattle.jobs.specs.Cycles.{Cycle, command, data_out, ColumnBytes, RowBytes, t
 use Rattle.thm_stations.specs.Jobs.{event_of, whole_row, Piece, byte, move, pieces, Job, read, read_out, program, erase, status, copyback_read, copyback_program, cycles, lun_named}
 use Rattle.thm_stations.proofs.Ties.{Quiet}
 use Rattle.thm_stations.proofs.Course.{decoder, is_nobody, aimed, plain, plainly, EndedOf, GivenOf, TakerOf, OutputOf, CycleOf, Course, Spared, spared-address, spared-in, spared-out, spared-command, at-start, Alike}
+use Rattle.std.specs.Prelude.{None, Option, Some}
+use Rattle.target.specs.declared.views.Ended.{Ended}
+use Rattle.target.specs.declared.Second.{Second}
 
 -- v is the first command f, which has addresses, a row among them, and waits for no LUN
 pub record Opens (v : ℕ) (f : First) : Type 0 where
-  pub found : first_of v ≡ first.Found f
+  pub found : first_of v ≡ Some f
   pub no-reset : eqb v 0xff ≡ false
   pub no-page : eqb v 0x05 ≡ false
   pub is-aimed : aimed f ≡ true
   pub rowed : takes_row f ≡ true
 
-pub opens : {v : ℕ} {f : First} → first_of v ≡ first.Found f → eqb v 0xff ≡ false → eqb v 0x05 ≡ false → aimed f ≡ true
+pub opens : {v : ℕ} {f : First} → first_of v ≡ Some f → eqb v 0xff ≡ false → eqb v 0x05 ≡ false → aimed f ≡ true
     → takes_row f ≡ true → Opens v f
 opens found no-reset no-page is-aimed rowed =
     record { found = found; no-reset = no-reset; no-page = no-page; is-aimed = is-aimed; rowed = rowed }
 
-abbrev pub is_moved : SecondFound → Bool
-is_moved second.Nothing = false
-is_moved (second.Found s) = is_move (second_row s).act
+abbrev pub is_moved : Option Second → Bool
+is_moved None = false
+is_moved (Some s) = is_move (second_row s).act
 
 -- v ends a sequence, and opens none
 pub record Closes (v : ℕ) : Type 0 where
@@ -85,13 +83,13 @@ row-outside : (f : First) → takes_row f ≡ true → in_page f ≡ false
 row-outside f row = not-true (in_page f) (other (not (takes_row f)) (not (in_page f)) (row-test f) (rw row))
 
 -- what closes a sequence leaves none open
-over-with : (x : SecondFound) (f : First) (c : Column) (r : Row) → is_moved x ≡ false
+over-with : (x : Option Second) (f : First) (c : Column) (r : Row) → is_moved x ≡ false
     → ended_sequence (ended_with x f c r) ≡ Idle
-over-with second.Nothing f c r h = refl
-over-with (second.Found s) f c r h = rw h
+over-with None f c r h = refl
+over-with (Some s) f c r h = rw h
 
 over : (b : Bool) (v : ℕ) (f : First) (c : Column) (r : Row) → is_moved (second_of v) ≡ false
-    → ended_sequence (pick b (ended_by v f c r) ender.Nothing) ≡ Idle
+    → ended_sequence (pick b (ended_by v f c r) None) ≡ Idle
 over true v f c r h = over-with (second_of v) f c r h
 over false v f c r h = refl
 
@@ -101,23 +99,23 @@ closed_by last ps = pieces ps ++ (command last ∷ [])
 
 module _ (g : Geometry) where
   -- a second command has the sequence's row
-  ended-with : (x : SecondFound) (f : First) (c : Column) (r : Row) → takes_row f ≡ true
+  ended-with : (x : Option Second) (f : First) (c : Column) (r : Row) → takes_row f ≡ true
       → EndedOf g (lun_of g r) (ended_with x f c r)
   unfolding EndedOf
-  ended-with second.Nothing f c r h = tt
-  ended-with (second.Found s) f c r h = (h, refl)
+  ended-with None f c r h = tt
+  ended-with (Some s) f c r h = (h, refl)
 
   ended-pick : (b : Bool) (v : ℕ) (f : First) (c : Column) (r : Row) → takes_row f ≡ true
-      → EndedOf g (lun_of g r) (pick b (ended_by v f c r) ender.Nothing)
+      → EndedOf g (lun_of g r) (pick b (ended_by v f c r) None)
   unfolding EndedOf
   ended-pick true v f c r h = ended-with (second_of v) f c r h
   ended-pick false v f c r h = tt
 
   -- and puts out that row's LUN
-  ended-output : (l : ℕ) (x : Ender) → EndedOf g l x → OutputOf l (ended_output g l x)
+  ended-output : (l : ℕ) (x : Option Ended) → EndedOf g l x → OutputOf l (ended_output g l x)
   unfolding EndedOf OutputOf
-  ended-output l ender.Nothing w = tt
-  ended-output l (ender.By k) w =
+  ended-output l None w = tt
+  ended-output l (Some k) w =
       by-pick (OutputOf l) (second_row k.second).shows
       (ended_place g l k) output.Nothing (λ _. rw (row-outside k.first w.0, w.0) w.1) (λ _. tt)
 

@@ -1,12 +1,12 @@
 -- The premises of `FromPowerOn` are met together, from T1's own parameter page on.
 -- Assumes nothing.
+use Rattle.std.specs.Prelude.{Ok}
 use mathlib.Core.Path.{◌≡◌, refl, sym, subst}
 use mathlib.Core.Bool.{true}
 use lib.ListN.{length}
 use Rattle.target.specs.declared.Geometry.{Geometry}
 use Rattle.target.specs.declared.Sequence.TheVariants.{Idle}
 use Rattle.power.specs.Power.{power_answer}
-use Rattle.power.specs.declared.PowerAnswer.TheVariants.{Accepted}
 use Rattle.thm_demands.specs.Runs.{after}
 use Rattle.thm_cases.specs.Parts.{t1}
 use Rattle.thm_cases.proofs.Cases.{computes}
@@ -25,7 +25,7 @@ geometry-t1 = refl
 met-mixture : Mixture ready_t1.target.geometry events
 met-mixture = subst (λ (g : Geometry). Mixture g events) (sym geometry-t1) mixture
 
-met-accepted : power_answer t1.params (length t1.array) (length t1.registers) t1.counts t1.flags ≡ Accepted
+met-accepted : power_answer t1.params (length t1.array) (length t1.registers) t1.counts t1.flags ≡ Ok tt
 unfolding computes
 met-accepted = refl
 

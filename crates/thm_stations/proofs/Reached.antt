@@ -21,10 +21,6 @@ use Rattle.target.specs.declared.Sequence.{Sequence}
 use Rattle.target.specs.declared.Target.{Target}
 use Rattle.target.specs.declared.views.Given.{Given}
 use Rattle.target.specs.declared.views.Given.TheVariants as given
-use Rattle.target.specs.declared.views.Ender.{Ender}
-use Rattle.target.specs.declared.views.Ender.TheVariants as ender
-use Rattle.target.specs.declared.Verdict.{Verdict}
-use Rattle.target.specs.declared.Verdict.TheVariants as verdicts
 use Rattle.rules.specs.Rules.{verdict}
 use Rattle.lun_records.specs.LunsAfter.{ended_luns, addressed_luns, finished, luns_after}
 use Rattle.effects.specs.Effects.{target_after, target_refused}
@@ -37,20 +33,23 @@ use Rattle.thm_demands.proofs.Promised.{powered-fit, run-fit}
 use Rattle.thm_stations.specs.Isolated.{Fine}
 use Rattle.thm_stations.specs.Reached.{FromPowerOn}
 use Rattle.thm_stations.proofs.Isolation.{isolation}
+use Rattle.std.specs.Prelude.{Err, None, Ok, Option, Result, Some}
+use Rattle.target.specs.declared.views.Ended.{Ended}
+use Rattle.target.specs.declared.Refusal.{Refusal}
 
 -- as many LUN records as before
-ended-count : (g : Geometry) (luns : List Lun) (x : Ender) (found : Findings)
+ended-count : (g : Geometry) (luns : List Lun) (x : Option Ended) (found : Findings)
     → length (ended_luns g luns x found) ≡ length luns
-ended-count g luns ender.Nothing found = refl
-ended-count g luns (ender.By k) found =
+ended-count g luns None found = refl
+ended-count g luns (Some k) found =
     by-pick (λ (y : List Lun). length y ≡ length luns) (second_row k.second).starts _ luns (λ _. length-set luns _ _) (λ _. refl)
 
-addressed-count : (g : Geometry) (luns : List Lun) (x : Given) → length (addressed_luns g luns x) ≡ length luns
-addressed-count g luns given.Nothing = refl
-addressed-count g luns (given.Column k) = refl
-addressed-count g luns (given.Row k) =
+addressed-count : (g : Geometry) (luns : List Lun) (x : Option Given) → length (addressed_luns g luns x) ≡ length luns
+addressed-count g luns None = refl
+addressed-count g luns (Some (given.Column k)) = refl
+addressed-count g luns (Some (given.Row k)) =
     by-pick (λ (y : List Lun). length y ≡ length luns) (closes_copyback k.first) _ luns (λ _. length-set luns _ _) (λ _. refl)
-addressed-count g luns (given.Single k) = refl
+addressed-count g luns (Some (given.Single k)) = refl
 
 luns-four : (g : Geometry) (luns : List Lun) (s : Sequence) (e : Event) (found : Findings) → length luns ≡ 4
     → length (luns_after g luns s e found) ≡ 4
@@ -65,10 +64,10 @@ luns-four g luns s e found h =
     (λ _. by-pick (λ (x : List Lun). length x ≡ 4) (eqb e.kind 4) (finished luns e.value) luns (λ _. length-set luns _ _ ∙ h) (λ _. h))))
 
 module _ (t : Target) (e : Event) (page : List ℕ) (b : Buffers) (flags : List ℕ) (h : length t.luns ≡ 4) where
-  verdict-four : (v : Verdict) → length (by_verdict v t e page b flags).target.luns ≡ 4
+  verdict-four : (v : Result Unit Refusal) → length (by_verdict v t e page b flags).target.luns ≡ 4
   unfolding by_verdict accepted accepted_by target_after target_refused
-  verdict-four verdicts.Accepted = luns-four t.geometry t.luns t.decoder.sequence e _ h
-  verdict-four (verdicts.Refused r) = h
+  verdict-four (Ok tt) = luns-four t.geometry t.luns t.decoder.sequence e _ h
+  verdict-four (Err r) = h
 
   pick-four : (ok : Bool)
       → length (pick ok (steady t e page b flags) (record { reply = reply.Refused refusal.NotUsable; target = t; buffers = b })).target.luns ≡ 4

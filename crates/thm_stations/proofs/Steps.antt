@@ -13,8 +13,6 @@ use Rattle.target.specs.declared.Lun.{Lun}
 use Rattle.target.specs.declared.Sequence.{Sequence}
 use Rattle.target.specs.declared.Output.{Output}
 use Rattle.target.specs.declared.Target.{Target}
-use Rattle.target.specs.declared.Verdict.{Verdict}
-use Rattle.target.specs.declared.Verdict.TheVariants.{Accepted, Refused}
 use Rattle.target.proofs.Both.{meant}
 use Rattle.rules.specs.Rules.{fits, misplaced, verdict}
 use Rattle.rules.proofs.Passed.{all-passed}
@@ -37,6 +35,8 @@ use Rattle.thm_stations.proofs.Halves.{Fixed, fixed_of, made, refixed}
 use Rattle.thm_stations.proofs.Course.{held, CycleOf, Course, Spared, spared-all, spared-behind, Standing, equal, Alike}
 use Rattle.thm_stations.proofs.Verdicts.{verdict-alike, verdict-finish}
 use Rattle.thm_stations.proofs.Effects.{work-mine, luns-changed, decoder-alike, findings-alike, reply-alike, or-none, fixed_kept}
+use Rattle.std.specs.Prelude.{Err, Ok, Result}
+use Rattle.target.specs.declared.Refusal.{Refusal}
 
 abbrev pub state_of : Target → Buffers → State
 state_of t b = record { target = t; buffers = b }
@@ -64,7 +64,7 @@ is-bus (address v) = refl
 is-bus (data_in v) = refl
 is-bus data_out = refl
 
-accepted-fits : (t : Target) (c : Cycle) → verdict t (event_of c) ≡ Accepted → fits t.decoder (event_of c) ≡ true
+accepted-fits : (t : Target) (c : Cycle) → verdict t (event_of c) ≡ (Ok tt) → fits t.decoder (event_of c) ≡ true
 unfolding misplaced
 accepted-fits t c held =
     meant (is_bus (event_of c)) (fits t.decoder (event_of c)) (all-passed t (event_of c) held).rule-3 (is-bus c)
@@ -101,7 +101,7 @@ module _ (params flags : List ℕ) where
       right_target = made k b ys (held q p j)
 
       module _ (agreed : Agreed k l (state_of left_target B) (state_of right_target C)) (standing : Standing (c ∷ cs) o p) (keeps : CycleOf k.geometry l c q o) where
-        cycle-accepted : verdict left_target (event_of c) ≡ Accepted → (found : Findings)
+        cycle-accepted : verdict left_target (event_of c) ≡ (Ok tt) → (found : Findings)
             → found ≡ findings k.geometry k.words q (event_of c) B.counts flags
             → Moved k l (state_of left_target B) (state_of right_target C) (accepted_by left_target (event_of c) params B found) (accepted_by right_target (event_of c) params C found)
         unfolding accepted_by target_after
@@ -126,44 +126,44 @@ module _ (params flags : List ℕ) where
             let u = passing (state_of left_target B) agreed.fine in
             findings-alike k.geometry l flags B C u.sizes (passing (state_of right_target C) agreed.fineʳ).sizes agreed.parts.counts k.words q o c (sound left_target u.record-sound).sequence keeps
 
-        cycle-moved : (v : Verdict) → verdict left_target (event_of c) ≡ v
+        cycle-moved : (v : Result Unit Refusal) → verdict left_target (event_of c) ≡ v
             → Moved k l (state_of left_target B) (state_of right_target C) (by_verdict v left_target (event_of c) params B flags) (by_verdict v right_target (event_of c) params C flags)
         unfolding by_verdict accepted target_refused
-        cycle-moved Accepted held = rw (← same-findings) (cycle-accepted held _ refl)
-        cycle-moved (Refused r) held =
+        cycle-moved (Ok tt) held = rw (← same-findings) (cycle-accepted held _ refl)
+        cycle-moved (Err r) held =
             record { reply = refl; luns = as-were; buffers = unedited k.geometry l B C; fixed = refl; fixedʳ = refl }
 
       cycle-decoder : Standing (c ∷ cs) o p → Course k.geometry l (c ∷ cs) q o → Spared k.geometry l cs
-          → (v : Verdict) → verdict left_target (event_of c) ≡ v
+          → (v : Result Unit Refusal) → verdict left_target (event_of c) ≡ v
           → Alike k.geometry l cs (by_verdict v left_target (event_of c) params B flags).target.decoder (by_verdict v right_target (event_of c) params C flags).target.decoder
       unfolding by_verdict accepted accepted_by target_after
-      cycle-decoder standing course spared Accepted held =
+      cycle-decoder standing course spared (Ok tt) held =
           decoder-alike k.geometry l q c cs i j a b standing course spared (accepted-fits left_target c held)
-      cycle-decoder standing course spared (Refused r) held =
+      cycle-decoder standing course spared (Err r) held =
           rw (refused-decoder left_target c, refused-decoder right_target c)
           (record { sequence = refl; standing = equal; course = spared-all k.geometry l cs spared; rest = spared-behind k.geometry l cs spared })
 
     -- a finish event of the l-th LUN, whatever the decoders
     module _ (a b : ℕ) (xs ys : List Lun) (d e : Decoder) (B C : Buffers) (lun : lun_at xs l ≡ lun_at ys l) where
-      finish-moved : (v : Verdict)
+      finish-moved : (v : Result Unit Refusal)
           → Moved k l (state_of (made k a xs d) B) (state_of (made k b ys e) C) (by_verdict v (made k a xs d) (finish_of l) params B flags) (by_verdict v (made k b ys e) (finish_of l) params C flags)
       unfolding by_verdict accepted accepted_by target_after target_refused reply_of luns_after clear_after high_after work_of worked array_after registers_after counts_after
-      finish-moved Accepted = record {
+      finish-moved (Ok tt) = record {
         reply = refl;
         luns = become-by lun_finished lun;
         buffers = unedited k.geometry l B C;
         fixed = refixed k refl (or-none k.seen refl);
         fixedʳ = refixed k refl (or-none k.seen refl);
       }
-      finish-moved (Refused r) =
+      finish-moved (Err r) =
           record { reply = refl; luns = as-were; buffers = unedited k.geometry l B C; fixed = refl; fixedʳ = refl }
 
   -- a finish event leaves the decoder as it is
-  finish-keeps : (f : ℕ) (t : Target) (b : Buffers) (v : Verdict)
+  finish-keeps : (f : ℕ) (t : Target) (b : Buffers) (v : Result Unit Refusal)
       → (by_verdict v t (finish_of f) params b flags).target.decoder ≡ t.decoder
   unfolding by_verdict accepted accepted_by target_after target_refused sequence_after output_after kept_after
-  finish-keeps f t b Accepted = refl
-  finish-keeps f t b (Refused r) = refl
+  finish-keeps f t b (Ok tt) = refl
+  finish-keeps f t b (Err r) = refl
 
   -- any two states with the fixed half k
   module _ (k : Fixed) (P : State → State → Type 0) where

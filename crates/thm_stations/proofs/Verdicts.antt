@@ -15,8 +15,6 @@ use Rattle.target.specs.declared.Decoder.{Decoder}
 use Rattle.target.specs.declared.Sequence.{Sequence}
 use Rattle.target.specs.declared.Output.{Output}
 use Rattle.target.specs.declared.Output.TheVariants as output
-use Rattle.target.specs.declared.commands.FirstFound.{FirstFound}
-use Rattle.target.specs.declared.commands.FirstFound.TheVariants as first
 use Rattle.target.specs.declared.commands.Waits.{Waits}
 use Rattle.target.specs.declared.commands.Waits.TheVariants as waits
 use Rattle.target.specs.declared.views.Given.{Given}
@@ -27,6 +25,8 @@ use Rattle.jobs.specs.Cycles.{Cycle, command, address, data_in, data_out}
 use Rattle.thm_stations.specs.Jobs.{event_of, finish_of}
 use Rattle.thm_stations.proofs.Halves.{Fixed, made}
 use Rattle.thm_stations.proofs.Course.{held, is_nobody, aimed_found, plain, plainly, GivenOf, OutputOf, CycleOf, Standing, equal}
+use Rattle.std.specs.Prelude.{None, Option, Some}
+use Rattle.target.specs.declared.First.{First}
 
 -- rule 6 holds of no command of a job
 module _ (luns : List Lun) (selected : ℕ) where
@@ -35,9 +35,9 @@ module _ (luns : List Lun) (selected : ℕ) where
   nobody-works waits.Others h = absurd (false≢true h)
   nobody-works waits.All h = absurd (false≢true h)
 
-  aimed-calm : (x : FirstFound) → aimed_found x ≡ true → others_work_for luns selected x ≡ false
-  aimed-calm first.Nothing h = refl
-  aimed-calm (first.Found f) h =
+  aimed-calm : (x : Option First) → aimed_found x ≡ true → others_work_for luns selected x ≡ false
+  aimed-calm None h = refl
+  aimed-calm (Some f) h =
       nobody-works (waits_for f) (both (is_nobody (waits_for f)) (not (eqb (cycles_of f) 0)) h).0
 
   calm : (v : ℕ) → plain v ≡ true → others_busy luns selected (event_of (command v)) ≡ false
@@ -52,22 +52,22 @@ module _ (k : Fixed) (l a b : ℕ) (xs ys : List Lun) (lun : lun_at xs l ≡ lun
   copyback-alike m q = rw q (ap (λ (u : Lun). u.copyback) lun)
 
   -- what an address completes asks for no LUN but the l-th
-  names-alike : (x : Given) → GivenOf k.geometry l x
+  names-alike : (x : Option Given) → GivenOf k.geometry l x
       → names_working k.geometry xs a x ≡ names_working k.geometry ys b x
   unfolding GivenOf
-  names-alike given.Nothing w = refl
-  names-alike (given.Column c) w = rw w
-  names-alike (given.Row r) w = rw (works-alike (lun_of k.geometry r.row) w)
-  names-alike (given.Single s) w = absurd w
+  names-alike None w = refl
+  names-alike (Some (given.Column c)) w = rw w
+  names-alike (Some (given.Row r)) w = rw (works-alike (lun_of k.geometry r.row) w)
+  names-alike (Some (given.Single s)) w = absurd w
 
   -- nor looks at another LUN's copyback
-  lacks-alike : (x : Given) → GivenOf k.geometry l x
+  lacks-alike : (x : Option Given) → GivenOf k.geometry l x
       → lacks_copyback k.geometry xs x ≡ lacks_copyback k.geometry ys x
   unfolding GivenOf
-  lacks-alike given.Nothing w = refl
-  lacks-alike (given.Column c) w = refl
-  lacks-alike (given.Row r) w = rw (copyback-alike (lun_of k.geometry r.row) w)
-  lacks-alike (given.Single s) w = refl
+  lacks-alike None w = refl
+  lacks-alike (Some (given.Column c)) w = refl
+  lacks-alike (Some (given.Row r)) w = rw (copyback-alike (lun_of k.geometry r.row) w)
+  lacks-alike (Some (given.Single s)) w = refl
 
   output-alike : (o : Output) → OutputOf l o → output_works xs o ≡ output_works ys o
   unfolding OutputOf

@@ -1,10 +1,9 @@
 -- Demand 3 from the users' side: the start may be any state that a run from an accepted power-on reaches, after the first reset,
 -- with no sequence open and program-clear on.
-use Rattle.std.specs.Prelude.{◌≡◌, true, List, map, ℕ, length}
+use Rattle.std.specs.Prelude.{◌≡◌, true, List, map, ℕ, length, Ok}
 use Rattle.target.specs.declared.Event.{Event}
 use Rattle.target.specs.declared.Sequence.TheVariants.{Idle}
 use Rattle.power.specs.Power.{power_answer}
-use Rattle.power.specs.declared.PowerAnswer.TheVariants.{Accepted}
 use Rattle.step.specs.Step.{State}
 use Rattle.thm_demands.specs.Runs.{after, powered_up}
 use Rattle.thm_stations.specs.Mixture.{Owned, Mixture}
@@ -15,7 +14,7 @@ use Rattle.thm_cases.specs.Parts.{t1}
 abbrev pub FromPowerOn : Type 0
 FromPowerOn =
     (page : List ℕ) (device : ℕ) (array registers counts flags : List ℕ)
-    → power_answer page (length array) (length registers) counts flags ≡ Accepted
+    → power_answer page (length array) (length registers) counts flags ≡ Ok tt
     → (before : List Event) (s : State)
     → s ≡ after page flags before (powered_up page device array registers counts flags)
     → s.target.seen ≡ true → s.target.decoder.sequence ≡ Idle → s.target.clear ≡ true
@@ -31,7 +30,7 @@ ready_t1 =
     (powered_up t1.params 0x68 t1.array t1.registers t1.counts t1.flags)
 
 pub record PremisesMet : Type 0 where
-  pub accepted : power_answer t1.params (length t1.array) (length t1.registers) t1.counts t1.flags ≡ Accepted
+  pub accepted : power_answer t1.params (length t1.array) (length t1.registers) t1.counts t1.flags ≡ Ok tt
   pub seen : ready_t1.target.seen ≡ true
   pub closed : ready_t1.target.decoder.sequence ≡ Idle
   pub clear : ready_t1.target.clear ≡ true

@@ -27,9 +27,6 @@ use Rattle.target.specs.declared.Second.TheVariants.{StartRead, StartOutput, Sta
 use Rattle.target.specs.declared.Sequence.{Sequence}
 use Rattle.target.specs.declared.commands.Act.{Act}
 use Rattle.target.specs.declared.commands.Act.TheVariants as act
-use Rattle.target.specs.declared.commands.SecondFound.{SecondFound}
-use Rattle.target.specs.declared.commands.SecondFound.TheVariants as second
-use Rattle.target.specs.declared.views.Ender.{Ender}
 use Rattle.lun_records.specs.LunsAfter.{blank_after, ended_luns, luns_after}
 use Rattle.effects.specs.Effects.{target_after}
 use Rattle.blocks.specs.Blocks.{block_index, block_bad, blank_block}
@@ -41,6 +38,9 @@ use Rattle.thm_steps.proofs.Program.{part-byte}
 use Rattle.thm_steps.proofs.PageOrder.{some-here, none-set, part-short}
 use Rattle.thm_steps.proofs.Status.{stored-leaves, row-leaves}
 use Rattle.thm_steps.proofs.Taken.{left_by, left-refused, and_none}
+use Rattle.std.specs.Prelude.{None, Option, Some}
+use Rattle.target.specs.declared.views.Ended.{Ended}
+use Rattle.target.specs.declared.Second.{Second}
 
 -- The definition, count by count.
 module _ (g : Geometry) (r : Row) (counts flags : List ℕ) where
@@ -86,13 +86,13 @@ moves_act act.Program = true
 moves_act act.Erase = true
 moves_act act.Move = false
 
-abbrev moves_found : SecondFound → Bool
-moves_found second.Nothing = false
-moves_found (second.Found s) = moves_act (second_row s).act
+abbrev moves_found : Option Second → Bool
+moves_found None = false
+moves_found (Some s) = moves_act (second_row s).act
 
 by_tests : (a o p q m c : Bool) → (p || q) ≡ false
-    → moves_found (pick a (second.Found StartRead) (pick o (second.Found StartOutput) (pick p (second.Found StartProgram)
-    (pick q (second.Found StartErase) (pick m (second.Found Move) (pick c (second.Found StartCopyback) second.Nothing))))))
+    → moves_found (pick a (Some StartRead) (pick o (Some StartOutput) (pick p (Some StartProgram)
+    (pick q (Some StartErase) (pick m (Some Move) (pick c (Some StartCopyback) None))))))
     ≡ false
 unfolding second_row
 by_tests true o p q m c h = refl
@@ -118,10 +118,10 @@ module _ (g : Geometry) (luns : List Lun) (found : Findings) (l : ℕ) where
   act-leaves act.Erase n h = absurd (false≢true (sym h))
   act-leaves act.Move n h = refl
 
-  found-leaves : (k : SecondFound) (f : First) (c : Column) (r : Row) → moves_found k ≡ false
+  found-leaves : (k : Option Second) (f : First) (c : Column) (r : Row) → moves_found k ≡ false
       → Leaves (ended_luns g luns (ended_with k f c r) found)
-  found-leaves second.Nothing f c r h = refl
-  found-leaves (second.Found s) f c r h =
+  found-leaves None f c r h = refl
+  found-leaves (Some s) f c r h =
       by-pick Leaves (second_row s).starts _ _
       (λ _. stored-leaves (λ (x : Lun). x.blank) luns (lun_of g r) l _ (act-leaves (second_row s).act (blank_at luns (lun_of g r)) h))
       (λ _. refl)
@@ -132,7 +132,7 @@ module _ (g : Geometry) (luns : List Lun) (found : Findings) (l : ℕ) where
       by-pick Leaves (is_reset e) _ _ (λ _. readied-leaves luns l low)
       (λ _. by-pick Leaves (eqb e.kind 0) _ _
       (λ is. let none = moves-none e.value (then-not (eqb e.kind 0) (eqb e.value 0x10 || eqb e.value 0xd0) h is) in
-      by-ending (λ (x : Ender). Leaves (ended_luns g luns x found)) e.value refl (λ f c r. found-leaves (second_of e.value) f c r none) s)
+      by-ending (λ (x : Option Ended). Leaves (ended_luns g luns x found)) e.value refl (λ f c r. found-leaves (second_of e.value) f c r none) s)
       (λ _. by-pick Leaves (eqb e.kind 1) _ _ (λ _. row-leaves g luns (λ (x : Lun). x.blank) (λ _. refl) (completed s e.value) l)
       (λ _. by-pick Leaves (eqb e.kind 4) _ _ (λ _. stored-leaves (λ (x : Lun). x.blank) luns e.value l _ refl) (λ _. refl))))
 

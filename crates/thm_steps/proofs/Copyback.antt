@@ -17,8 +17,6 @@ use Rattle.target.specs.declared.First.TheVariants as first
 use Rattle.target.specs.declared.Sequence.{Sequence}
 use Rattle.target.specs.declared.Sequence.TheVariants.{Idle}
 use Rattle.target.specs.declared.Refusal.TheVariants.{Unknown, OutOfRange, LunWorks, NoCopyback}
-use Rattle.target.specs.declared.Verdict.{Verdict}
-use Rattle.target.specs.declared.Verdict.TheVariants as verdicts
 use Rattle.rules.specs.Rules.{verdict, before_reset, unknown, misplaced, fits, others_busy, out_of_range, lun_works, no_copyback, line_low}
 use Rattle.rules.proofs.ByKind.{command-verdict, address-verdict}
 use Rattle.effects.specs.Effects.{work_of, target_after, sequence_after, output_after}
@@ -29,6 +27,8 @@ use Rattle.step.specs.Step.{Buffers, Outcome, reply_of, worked, accepted_by, acc
 use Rattle.thm_steps.specs.Steps.{command, address, due, last_row, filling, Copyback}
 use Rattle.thm_steps.proofs.Places.{place-35}
 use Rattle.thm_steps.proofs.Taken.{command-fits, put, verdict-at, accepts, refuses, left_at, left-refused, and_none}
+use Rattle.std.specs.Prelude.{Err, Ok, Result}
+use Rattle.target.specs.declared.Refusal.{Refusal}
 
 and-all : (a : Bool) → (a && true) ≡ a
 and-all true = refl
@@ -36,47 +36,47 @@ and-all false = refl
 
 -- the verdict on the last row cycle of 85h, by its row and the LUN's record
 module _ (t : Target) (c : Column) (low mid v : ℕ) where
-  abbrev on_row : Verdict
+  abbrev on_row : Result Unit Refusal
   on_row = verdict (put t true (last_row first.CopybackProgram c low mid) t.decoder.output) (address v)
 
   abbrev lun : ℕ
   lun = lun_of t.geometry (row_from low mid v)
 
-  beyond-85 : row_exists t.geometry (row_from low mid v) ≡ false → on_row ≡ verdicts.Refused OutOfRange
+  beyond-85 : row_exists t.geometry (row_from low mid v) ≡ false → on_row ≡ Err OutOfRange
   unfolding or_else row_of before_reset misplaced fits out_of_range
   beyond-85 h = address-verdict (put t true (last_row first.CopybackProgram c low mid) t.decoder.output) v ∙ (rw (h))
 
-  works-85 : row_exists t.geometry (row_from low mid v) ≡ true → works t.luns lun ≡ true → on_row ≡ verdicts.Refused LunWorks
+  works-85 : row_exists t.geometry (row_from low mid v) ≡ true → works t.luns lun ≡ true → on_row ≡ Err LunWorks
   unfolding or_else row_of before_reset misplaced fits out_of_range lun_works
   works-85 there h = address-verdict (put t true (last_row first.CopybackProgram c low mid) t.decoder.output) v ∙ (rw (there, h))
 
-  abbrev by_mark : Bool → Verdict
-  by_mark x = or_else (not x) NoCopyback verdicts.Accepted
+  abbrev by_mark : Bool → Result Unit Refusal
+  by_mark x = or_else (not x) NoCopyback (Ok tt)
 
   marked-85 : row_exists t.geometry (row_from low mid v) ≡ true → works t.luns lun ≡ false → on_row ≡ by_mark (copyback_at t.luns lun)
   unfolding or_else row_of before_reset misplaced fits out_of_range lun_works no_copyback
   marked-85 there h = address-verdict (put t true (last_row first.CopybackProgram c low mid) t.decoder.output) v ∙ (rw (there, h))
 
-  lacks : by_mark false ≡ verdicts.Refused NoCopyback
+  lacks : by_mark false ≡ Err NoCopyback
   unfolding or_else
   lacks = refl
 
-  has : by_mark true ≡ verdicts.Accepted
+  has : by_mark true ≡ (Ok tt)
   unfolding or_else
   has = refl
 
 -- on 85h inside a program
-fits-85 : (t : Target) (f : First) (r : Row) (c : Column) → verdict (put t true (filling f r c) t.decoder.output) (command 0x85) ≡ verdicts.Accepted
+fits-85 : (t : Target) (f : First) (r : Row) (c : Column) → verdict (put t true (filling f r c) t.decoder.output) (command 0x85) ≡ (Ok tt)
 unfolding or_else row_of first_of second_of second_row class_of offered before_reset unknown misplaced fits others_busy line_low
 fits-85 t f r c = command-verdict (put t true (filling f r c) t.decoder.output) 0x85
 
 -- and on 35h, and on 85h with no sequence open, where optional bit 4 is 0
 module _ (t : Target) (none : has_option t.words 4 ≡ false) where
-  lacks-35 : (s : Sequence) → verdict (put t true s t.decoder.output) (command 0x35) ≡ verdicts.Refused Unknown
+  lacks-35 : (s : Sequence) → verdict (put t true s t.decoder.output) (command 0x35) ≡ Err Unknown
   unfolding or_else row_of first_of second_of second_row class_of offered before_reset unknown
   lacks-35 s = command-verdict (put t true s t.decoder.output) 0x35 ∙ (rw (none))
 
-  lone-85 : verdict (put t true Idle t.decoder.output) (command 0x85) ≡ verdicts.Refused Unknown
+  lone-85 : verdict (put t true Idle t.decoder.output) (command 0x85) ≡ Err Unknown
   unfolding or_else row_of first_of second_of second_row class_of offered before_reset unknown
   lone-85 = command-verdict (put t true Idle t.decoder.output) 0x85 ∙ (rw (none))
 

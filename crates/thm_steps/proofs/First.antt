@@ -15,12 +15,7 @@ use Rattle.target.specs.declared.Row.{Row}
 use Rattle.target.specs.declared.Geometry.{Geometry}
 use Rattle.target.specs.declared.Target.{Target}
 use Rattle.target.specs.declared.First.{First}
-use Rattle.target.specs.declared.commands.FirstFound.{FirstFound}
-use Rattle.target.specs.declared.commands.FirstFound.TheVariants as found
-use Rattle.target.specs.declared.commands.SecondFound.{SecondFound}
-use Rattle.target.specs.declared.commands.SecondFound.TheVariants as second
 use Rattle.target.specs.declared.Sequence.{Sequence}
-use Rattle.target.specs.declared.views.Ender.{Ender}
 use Rattle.target.specs.declared.Output.{Output}
 use Rattle.target.specs.declared.Output.TheVariants as output
 use Rattle.target.proofs.Both.{other}
@@ -31,19 +26,22 @@ use Rattle.thm_kept.proofs.Choice.{by-pick}
 use Rattle.thm_steps.specs.Steps.{command, Place}
 use Rattle.thm_steps.proofs.Places.{by-ending}
 use Rattle.thm_steps.proofs.Taken.{idle-before, left_by}
+use Rattle.std.specs.Prelude.{None, Option, Some}
+use Rattle.target.specs.declared.views.Ended.{Ended}
+use Rattle.target.specs.declared.Second.{Second}
 
-no_second : (k : SecondFound) → is_second_found k ≡ false → k ≡ second.Nothing
-no_second second.Nothing h = refl
-no_second (second.Found s) h = absurd (false≢true (sym h))
+no_second : (k : Option Second) → is_second_found k ≡ false → k ≡ None
+no_second None h = refl
+no_second (Some s) h = absurd (false≢true (sym h))
 
 no-reset : (f : First) → eqb (byte_of f) 0xff ≡ false
 unfolding row_of
 no-reset f = not-true (eqb (byte_of f) 0xff) (each_first (λ (x : First). not (eqb (byte_of x) 0xff)) refl f)
 
 -- the command that a byte names waits for address cycles where a command of that byte does: 05h stands for two
-abbrev at_once : FirstFound → Bool
-at_once found.Nothing = false
-at_once (found.Found f) = eqb (cycles_of f) 0
+abbrev at_once : Option First → Bool
+at_once None = false
+at_once (Some f) = eqb (cycles_of f) 0
 
 waits-too : (f : First) → eqb (cycles_of f) 0 ≡ false → at_once (first_of (byte_of f)) ≡ false
 unfolding row_of first_of
@@ -53,26 +51,26 @@ waits-too f some =
     (each_first (λ (x : First). eqb (cycles_of x) 0 || not (at_once (first_of (byte_of x)))) refl f) some)
 
 -- where a first command's byte is a second command too, it puts no register out
-abbrev shows_found : SecondFound → Bool
-shows_found second.Nothing = false
-shows_found (second.Found s) = (second_row s).shows
+abbrev shows_found : Option Second → Bool
+shows_found None = false
+shows_found (Some s) = (second_row s).shows
 
 shows-none : (f : First) → shows_found (second_of (byte_of f)) ≡ false
 unfolding row_of second_of second_row
 shows-none f = not-true (shows_found (second_of (byte_of f))) (each_first (λ (x : First). not (shows_found (second_of (byte_of x)))) refl f)
 
 module _ (g : Geometry) (selected : ℕ) where
-  found-ends : (k : SecondFound) (f : First) (c : Column) (r : Row) → shows_found k ≡ false → ended_output g selected (ended_with k f c r) ≡ output.Nothing
-  found-ends second.Nothing f c r h = refl
-  found-ends (second.Found s) f c r h = rw (h)
+  found-ends : (k : Option Second) (f : First) (c : Column) (r : Row) → shows_found k ≡ false → ended_output g selected (ended_with k f c r) ≡ output.Nothing
+  found-ends None f c r h = refl
+  found-ends (Some s) f c r h = rw (h)
 
   second-ends : (v : ℕ) → shows_found (second_of v) ≡ false → (s : Sequence) → ended_output g selected (ending s v) ≡ output.Nothing
   second-ends v h s =
-      by-ending (λ (x : Ender). ended_output g selected x ≡ output.Nothing) v refl (λ f c r. found-ends (second_of v) f c r h) s
+      by-ending (λ (x : Option Ended). ended_output g selected x ≡ output.Nothing) v refl (λ f c r. found-ends (second_of v) f c r h) s
 
-  found-opens : (k : FirstFound) → at_once k ≡ false → first_output selected k ≡ output.Nothing
-  found-opens found.Nothing h = refl
-  found-opens (found.Found f) h = ap (λ (x : Bool). pick x (shown (then_of f) selected 0 output.Nothing) output.Nothing) h
+  found-opens : (k : Option First) → at_once k ≡ false → first_output selected k ≡ output.Nothing
+  found-opens None h = refl
+  found-opens (Some f) h = ap (λ (x : Bool). pick x (shown (then_of f) selected 0 output.Nothing) output.Nothing) h
 
   first_ends : (f : First) → eqb (cycles_of f) 0 ≡ false → first_output selected (first_of (byte_of f)) ≡ output.Nothing
   first_ends f some = found-opens (first_of (byte_of f)) (waits-too f some)

@@ -16,8 +16,6 @@ use Rattle.target.specs.declared.Output.{Output}
 use Rattle.target.specs.declared.Output.TheVariants as output
 use Rattle.target.specs.declared.Refusal.TheVariants.{OutOfRange, PastEnd, NotOffered}
 use Rattle.target.specs.declared.Reply.TheVariants as reply
-use Rattle.target.specs.declared.Verdict.{Verdict}
-use Rattle.target.specs.declared.Verdict.TheVariants as verdicts
 use Rattle.target.specs.Place.{put_out, has_output}
 use Rattle.rules.specs.Rules.{verdict, before_reset, misplaced, fits, out_of_range, not_offered, past_end, output_works, output_ended}
 use Rattle.rules.proofs.ByKind.{address-verdict, in-verdict}
@@ -29,34 +27,36 @@ use Rattle.step.specs.Step.{Buffers, Outcome, reply_of, worked, accepted_by, acc
 use Rattle.thm_steps.specs.Steps.{address, data_in, data_out, RefusedWith, Gives, setting, Identification, Live}
 use Rattle.thm_steps.proofs.Taken.{put, verdict-at, accepts, refuses, left_at}
 use Rattle.thm_steps.proofs.Status.{puts-out, none_out, given_out}
+use Rattle.std.specs.Prelude.{Err, Ok, Result}
+use Rattle.target.specs.declared.Refusal.{Refusal}
 
 -- EEh and EFh know address 01h only
-only-ee : (t : Target) (v : ℕ) → eqb v 0x01 ≡ false → verdict (put t true (Single first.GetFeatures) t.decoder.output) (address v) ≡ verdicts.Refused OutOfRange
+only-ee : (t : Target) (v : ℕ) → eqb v 0x01 ≡ false → verdict (put t true (Single first.GetFeatures) t.decoder.output) (address v) ≡ Err OutOfRange
 unfolding or_else row_of before_reset misplaced fits out_of_range
 only-ee t v h = address-verdict (put t true (Single first.GetFeatures) t.decoder.output) v ∙ (rw (h))
 
-only-ef : (t : Target) (v : ℕ) → eqb v 0x01 ≡ false → verdict (put t true (Single first.SetFeatures) t.decoder.output) (address v) ≡ verdicts.Refused OutOfRange
+only-ef : (t : Target) (v : ℕ) → eqb v 0x01 ≡ false → verdict (put t true (Single first.SetFeatures) t.decoder.output) (address v) ≡ Err OutOfRange
 unfolding or_else row_of before_reset misplaced fits out_of_range
 only-ef t v h = address-verdict (put t true (Single first.SetFeatures) t.decoder.output) v ∙ (rw (h))
 
 -- a feature byte, by whether it is offered
 module _ (t : Target) (v : ℕ) where
-  abbrev by_offer : Bool → Verdict
-  by_offer x = or_else (not x) NotOffered verdicts.Accepted
+  abbrev by_offer : Bool → Result Unit Refusal
+  by_offer x = or_else (not x) NotOffered (Ok tt)
 
   first-offer : (value : ℕ) → verdict (put t true (Setting (record { got = 0; value = value })) t.decoder.output) (data_in v) ≡ by_offer (eqb v 0 || eqb v 0x40 && has_feature t.words 8)
   unfolding or_else before_reset misplaced fits not_offered past_end
   first-offer value = in-verdict (put t true (Setting (record { got = 0; value = value })) t.decoder.output) v
 
-  rest-offer : (got value : ℕ) → eqb got 0 ≡ false → eqb v 0 ≡ false → verdict (put t true (Setting (record { got = got; value = value })) t.decoder.output) (data_in v) ≡ verdicts.Refused NotOffered
+  rest-offer : (got value : ℕ) → eqb got 0 ≡ false → eqb v 0 ≡ false → verdict (put t true (Setting (record { got = got; value = value })) t.decoder.output) (data_in v) ≡ Err NotOffered
   unfolding or_else before_reset misplaced fits not_offered past_end
   rest-offer got value h k = in-verdict (put t true (Setting (record { got = got; value = value })) t.decoder.output) v ∙ (rw (h, k))
 
-  offers : by_offer true ≡ verdicts.Accepted
+  offers : by_offer true ≡ (Ok tt)
   unfolding or_else
   offers = refl
 
-  offers-not : by_offer false ≡ verdicts.Refused NotOffered
+  offers-not : by_offer false ≡ Err NotOffered
   unfolding or_else
   offers-not = refl
 

@@ -14,18 +14,17 @@ use Rattle.target.specs.declared.Column.{Column}
 use Rattle.target.specs.declared.Row.{Row}
 use Rattle.target.specs.declared.First.{First}
 use Rattle.target.specs.declared.First.TheVariants as first
-use Rattle.target.specs.declared.commands.FirstFound.TheVariants as found
 use Rattle.target.specs.declared.Geometry.{Geometry}
 use Rattle.target.specs.declared.Wait.{Wait}
 use Rattle.target.specs.declared.Fill.{Fill}
-use Rattle.target.specs.declared.views.Ender.{Ender}
-use Rattle.target.specs.declared.views.Ender.TheVariants as ender
 use Rattle.target.specs.declared.Sequence.{Sequence}
 use Rattle.target.specs.declared.Sequence.TheVariants.{Idle, Columns, Rows, Single, Due, Filling, Moving, Setting}
 use Rattle.target.proofs.Both.{both, both3}
 use Rattle.target.proofs.Firsts.{every, each_first, named}
 use Rattle.step.specs.Usable.{column_held, row_held, sequence_sound}
 use Rattle.thm_kept.proofs.Choice.{by-pick}
+use Rattle.std.specs.Prelude.{None, Option, Some}
+use Rattle.target.specs.declared.views.Ended.{Ended}
 
 modus : (a b : Bool) → (not a || b) ≡ true → a ≡ true → b ≡ true
 modus true b h k = h
@@ -37,7 +36,7 @@ opposed true false h k l = false≢true l
 opposed false b h k l = false≢true k
 
 -- what holds where a command ends nothing, and where it ends a first command, holds at every place
-pub by-ending : (P : Ender → Type 0) (v : ℕ) → P ender.Nothing → ((f : First) (c : Column) (r : Row) → P (ended_by v f c r))
+pub by-ending : (P : Option Ended → Type 0) (v : ℕ) → P None → ((f : First) (c : Column) (r : Row) → P (ended_by v f c r))
     → (s : Sequence) → P (ending s v)
 by-ending P v none some Idle = none
 by-ending P v none some (Columns k) = none
@@ -50,7 +49,7 @@ by-ending P v none some (Filling k) =
 by-ending P v none some (Moving k) = none
 by-ending P v none some (Setting k) = none
 
-ended-test : (x : Bool) (k : Ender) → is_ended (pick x k ender.Nothing) ≡ true → x ≡ true
+ended-test : (x : Bool) (k : Option Ended) → is_ended (pick x k None) ≡ true → x ≡ true
 ended-test true k h = refl
 ended-test false k h = absurd (false≢true h)
 
@@ -59,11 +58,11 @@ abbrev has_byte : ℕ → First → Bool
 has_byte w f = eqb (byte_of f) w && not (in_page f)
 
 -- of the first commands only the one of this byte passes this test
-only-first : (p : First → Bool) (w : ℕ) (g : First) → every (λ (x : First). not (p x) || has_byte w x) first_commands ≡ true → first_of w ≡ found.Found g
+only-first : (p : First → Bool) (w : ℕ) (g : First) → every (λ (x : First). not (p x) || has_byte w x) first_commands ≡ true → first_of w ≡ Some g
     → (f : First) → p f ≡ true → f ≡ g
 only-first p w g test told f h =
     let is = both (eqb (byte_of f) w) (not (in_page f)) (modus (p f) (has_byte w f) (each_first (λ (x : First). not (p x) || has_byte w x) test f) h) in
-    let both_found : found.Found f ≡ found.Found g = sym (named f (not-true (in_page f) is.1)) ∙ ap first_of (eqb-true (byte_of f) w is.0) ∙ told in
+    let both_found : Some f ≡ Some g = sym (named f (not-true (in_page f) is.1)) ∙ ap first_of (eqb-true (byte_of f) w is.0) ∙ told in
     cc
 
 -- a second command that is neither 10h nor 85h

@@ -22,9 +22,6 @@ use Rattle.target.specs.declared.Decoder.{Decoder}
 use Rattle.target.specs.declared.Target.{Target}
 use Rattle.target.specs.declared.First.{First}
 use Rattle.target.specs.declared.First.TheVariants as first
-use Rattle.target.specs.declared.commands.FirstFound.{FirstFound}
-use Rattle.target.specs.declared.commands.FirstFound.TheVariants as found
-use Rattle.target.specs.declared.commands.SecondFound.TheVariants as second
 use Rattle.target.specs.declared.Sequence.{Sequence}
 use Rattle.target.specs.declared.Sequence.TheVariants.{Idle}
 use Rattle.target.specs.declared.Output.{Output}
@@ -33,8 +30,6 @@ use Rattle.target.specs.declared.views.Given.TheVariants as given
 use Rattle.target.specs.declared.Refusal.{Refusal}
 use Rattle.target.specs.declared.Refusal.TheVariants.{Misplaced, OutOfRange, LunWorks, LineHeld, BadRecord, NotUsable}
 use Rattle.target.specs.declared.Reply.TheVariants as reply
-use Rattle.target.specs.declared.Verdict.{Verdict}
-use Rattle.target.specs.declared.Verdict.TheVariants as verdicts
 use Rattle.target.proofs.Both.{both, neither, other}
 use Rattle.target.proofs.Firsts.{every}
 use Rattle.rules.specs.Rules.{Rule, first_holding, rules, verdict, before_reset, unknown, misplaced, fits, others_busy, out_of_range, lun_works, no_copyback, line_low, line_held, output_ended}
@@ -54,6 +49,7 @@ use Rattle.thm_steps.specs.Steps.{command, address, data_out, protect, column, b
 use Rattle.thm_steps.proofs.Taken.{put, seen_at, taken, verdict-at, decided, accepts, refuses, refused-by, not-usable, left_by, left_at, left-first}
 use Rattle.thm_steps.proofs.Status.{not_yes, none-70, on_out, on_out_lem, puts-out, given_out, status}
 use Rattle.thm_steps.proofs.Identification.{ended}
+use Rattle.std.specs.Prelude.{Err, None, Ok, Option, Result, Some}
 
 -- What a row's status keeps.
 
@@ -67,15 +63,15 @@ register_of l (output.Ids at) h = absurd (false≢true h)
 register_of l (output.Signature at) h = absurd (false≢true h)
 register_of l (output.Feature at) h = absurd (false≢true h)
 
-none-78 : second_of 0x78 ≡ second.Nothing
+none-78 : second_of 0x78 ≡ None
 unfolding second_of second_row
 none-78 = refl
 
-none-00 : second_of 0x00 ≡ second.Nothing
+none-00 : second_of 0x00 ≡ None
 unfolding second_of second_row
 none-00 = refl
 
-none-05 : second_of 0x05 ≡ second.Nothing
+none-05 : second_of 0x05 ≡ None
 unfolding second_of second_row
 none-05 = refl
 
@@ -88,15 +84,15 @@ keeper v = eqb v 0x70 || eqb v 0x78 || eqb v 0x00
 abbrev may_keep : First → Bool
 may_keep f = gives_status f || eqb (byte_of f) 0x00
 
-abbrev found_keeps : FirstFound → Bool
-found_keeps found.Nothing = false
-found_keeps (found.Found f) = may_keep f
+abbrev found_keeps : Option First → Bool
+found_keeps None = false
+found_keeps (Some f) = may_keep f
 
 no-keeper : (fs : List First) (v : ℕ) → every (λ (f : First). not (may_keep f) || keeper (byte_of f)) fs ≡ true → keeper v ≡ false → found_keeps (first_in fs v) ≡ false
 no-keeper [] v test none = refl
 no-keeper (f ∷ fs) v test none =
     let p = both (not (may_keep f) || keeper (byte_of f)) (every (λ (f : First). not (may_keep f) || keeper (byte_of f)) fs) test in
-    by-pick (λ (k : FirstFound). found_keeps k ≡ false) (eqb v (byte_of f)) (found.Found f) (first_in fs v)
+    by-pick (λ (k : Option First). found_keeps k ≡ false) (eqb v (byte_of f)) (Some f) (first_in fs v)
     (λ is. not-true (may_keep f) (first-of (not (may_keep f)) (keeper (byte_of f)) p.0 (ap keeper (sym (eqb-true v (byte_of f) is)) ∙ none)))
     (λ _. no-keeper fs v p.1 none)
   where
@@ -108,9 +104,9 @@ names-no-keeper : (v : ℕ) → keeper v ≡ false → found_keeps (first_of v) 
 unfolding first_of row_of
 names-no-keeper v none = no-keeper first_commands v refl none
 
-found-loses : (d : Decoder) (k : FirstFound) → found_keeps k ≡ false → first_kept d k ≡ output.Nothing
-found-loses d found.Nothing h = refl
-found-loses d (found.Found f) h =
+found-loses : (d : Decoder) (k : Option First) → found_keeps k ≡ false → first_kept d k ≡ output.Nothing
+found-loses d None h = refl
+found-loses d (Some f) h =
     let p = neither (gives_status f) (eqb (byte_of f) 0x00) h in
     ap (λ (x : Bool). pick x (remembered d) (pick (eqb (byte_of f) 0x00 && shows_status d.output) d.kept output.Nothing)) p.0
     ∙ ap (λ (x : Bool). pick (x && shows_status d.output) d.kept output.Nothing) p.1
@@ -125,21 +121,21 @@ abbrev ordinary : List Rule → Bool
 ordinary [] = true
 ordinary (r ∷ rs) = not (special r.gives) && ordinary rs
 
-speaks : (x : Bool) (r : Refusal) (v : Verdict) (q : Refusal) → or_else x r v ≡ verdicts.Refused q → special r ≡ false → (v ≡ verdicts.Refused q → special q ≡ false) → special q ≡ false
+speaks : (x : Bool) (r : Refusal) (v : Result Unit Refusal) (q : Refusal) → or_else x r v ≡ Err q → special r ≡ false → (v ≡ Err q → special q ≡ false) → special q ≡ false
 unfolding or_else
 speaks true r v q h own rest =
-    let is : verdicts.Refused r ≡ verdicts.Refused q = h in
+    let is : Err r ≡ Err q = h in
     let same : r ≡ q = cc in
     subst (λ (x : Refusal). special x ≡ false) same own
 speaks false r v q h own rest = rest h
 
-ordinary-speaks : (rs : List Rule) (q : Refusal) → ordinary rs ≡ true → first_holding rs ≡ verdicts.Refused q → special q ≡ false
+ordinary-speaks : (rs : List Rule) (q : Refusal) → ordinary rs ≡ true → first_holding rs ≡ Err q → special q ≡ false
 ordinary-speaks [] q h k = let z : ◌≡◌ {A = ℕ} 0 1 = cc in absurd (omega arith)
 ordinary-speaks (r ∷ rs) q h k =
     let p = both (not (special r.gives)) (ordinary rs) h in
     speaks r.holds r.gives (first_holding rs) q k (not-true (special r.gives) p.0) (ordinary-speaks rs q p.1)
 
-bad-speaks : (x : Bool) (v : Verdict) (q : Refusal) → or_else x BadRecord v ≡ verdicts.Refused q → special q ≡ true → (v ≡ verdicts.Refused q → special q ≡ false) → x ≡ true
+bad-speaks : (x : Bool) (v : Result Unit Refusal) (q : Refusal) → or_else x BadRecord v ≡ Err q → special q ≡ true → (v ≡ Err q → special q ≡ false) → x ≡ true
 unfolding or_else
 bad-speaks true v q h own rest = refl
 bad-speaks false v q h own rest = absurd (false≢true (sym (rest h) ∙ own))
@@ -149,19 +145,19 @@ later [] = []
 later (r ∷ rs) = rs
 
 -- 12 is a bad record's
-special-bad : (t : Target) (e : Event) (q : Refusal) → verdict t e ≡ verdicts.Refused q → special q ≡ true → bad_record e ≡ true
+special-bad : (t : Target) (e : Event) (q : Refusal) → verdict t e ≡ Err q → special q ≡ true → bad_record e ≡ true
 unfolding verdict rules
 special-bad t e q h own = bad-speaks (bad_record e) _ q h own (λ k. ordinary-speaks (later (rules t e)) q refl k)
 
-good-speaks : (x : Bool) (v : Verdict) (q : Refusal) → or_else x BadRecord v ≡ verdicts.Refused q → eqb (number_of q) 12 ≡ false → x ≡ false
+good-speaks : (x : Bool) (v : Result Unit Refusal) (q : Refusal) → or_else x BadRecord v ≡ Err q → eqb (number_of q) 12 ≡ false → x ≡ false
 unfolding or_else
 good-speaks true v q h other =
-    let is : verdicts.Refused BadRecord ≡ verdicts.Refused q = h in
+    let is : Err BadRecord ≡ Err q = h in
     let same : BadRecord ≡ q = cc in
     absurd (false≢true (sym (subst (λ (x : Refusal). eqb (number_of x) 12 ≡ false) (sym same) other)))
 good-speaks false v q h other = refl
 
-good-record : (t : Target) (e : Event) (q : Refusal) → verdict t e ≡ verdicts.Refused q → eqb (number_of q) 12 ≡ false → bad_record e ≡ false
+good-record : (t : Target) (e : Event) (q : Refusal) → verdict t e ≡ Err q → eqb (number_of q) 12 ≡ false → bad_record e ≡ false
 unfolding verdict rules
 good-record t e q h other = good-speaks (bad_record e) _ q h other
 
@@ -169,7 +165,7 @@ module _ (t : Target) (e : Event) (params : List ℕ) (b : Buffers) (flags : Lis
   -- the record after the refusal of an event that rule 13 lets pass
   refused-target : lets_pass t params b flags ≡ true → (step_of t e params b flags).target ≡ target_refused t e
   unfolding by_verdict
-  refused-target ok = ap (λ (o : Outcome). o.target) (decided t e params b flags (verdicts.Refused q) ok (refused-by t e params b flags q h ok))
+  refused-target ok = ap (λ (o : Outcome). o.target) (decided t e params b flags (Err q) ok (refused-by t e params b flags q h ok))
 
   abbrev refused_with : Bool → Target
   refused_with x = record {
@@ -306,10 +302,10 @@ module _ (t : Target) (params : List ℕ) (b : Buffers) (flags : List ℕ) (low 
   same-accepted : accepted t data_out params b flags ≡ accepted (putting t t.decoder.kept) data_out params b flags
   same-accepted = bare-leaves ∙ bare-plainly ∙ ap plainly (sym (same_byte t t.decoder.kept params b.registers t.decoder.kept)) ∙ sym plain-leaves
 
-  same_by : (v : Verdict) → by_verdict v t data_out params b flags ≡ by_verdict v (putting t t.decoder.kept) data_out params b flags
+  same_by : (v : Result Unit Refusal) → by_verdict v t data_out params b flags ≡ by_verdict v (putting t t.decoder.kept) data_out params b flags
   unfolding by_verdict target_refused bad_record
-  same_by verdicts.Accepted = same-accepted
-  same_by (verdicts.Refused r) = refl
+  same_by (Ok tt) = same-accepted
+  same_by (Err r) = refl
 
   module _ (ok : lets_pass t params b flags ≡ true) where
     plain-sound : record_sound (putting t t.decoder.kept) ≡ true
@@ -346,7 +342,7 @@ made t seen d = record {
 }
 
 -- 00h is accepted with no sequence open
-fits-00 : (t : Target) (o k : Output) → verdict (made t true (decoding Idle o k)) (command 0x00) ≡ verdicts.Accepted
+fits-00 : (t : Target) (o k : Output) → verdict (made t true (decoding Idle o k)) (command 0x00) ≡ (Ok tt)
 unfolding or_else row_of first_of second_of second_row class_of offered before_reset unknown misplaced fits others_busy line_low
 fits-00 t o k = command-verdict (made t true (decoding Idle o k)) 0x00
 
@@ -396,41 +392,41 @@ module _ (t : Target) (params : List ℕ) (b : Buffers) (flags : List ℕ) where
 -- Verdicts at a bare 00h, and of 05h within the parameter page.
 
 module _ (t : Target) (low : ℕ) where
-  address-00 : (v : ℕ) → verdict (put t true (bare low) t.decoder.output) (address v) ≡ verdicts.Accepted
+  address-00 : (v : ℕ) → verdict (put t true (bare low) t.decoder.output) (address v) ≡ (Ok tt)
   unfolding or_else row_of before_reset misplaced fits out_of_range lun_works no_copyback
   address-00 v = address-verdict (put t true (bare low) t.decoder.output) v
 
-  line-00 : (level : ℕ) → ltb 1 level ≡ false → verdict (put t true (bare low) t.decoder.output) (protect level) ≡ verdicts.Refused LineHeld
+  line-00 : (level : ℕ) → ltb 1 level ≡ false → verdict (put t true (bare low) t.decoder.output) (protect level) ≡ Err LineHeld
   unfolding or_else bad_record line_held
   line-00 level h = protect-verdict (put t true (bare low) t.decoder.output) level ∙ (rw (h, or-true (any_works t.luns)))
 
-  command-00 : (v : ℕ) → eqb v 0xff ≡ false → (is_known (class_of v) && offered t.words true v) ≡ true → verdict (put t true (bare low) t.decoder.output) (command v) ≡ verdicts.Refused Misplaced
+  command-00 : (v : ℕ) → eqb v 0xff ≡ false → (is_known (class_of v) && offered t.words true v) ≡ true → verdict (put t true (bare low) t.decoder.output) (command v) ≡ Err Misplaced
   unfolding or_else before_reset unknown misplaced fits
   command-00 v h k = command-verdict (put t true (bare low) t.decoder.output) v ∙ (rw (h, k))
 
-  low-05 : (v : ℕ) → verdict (put t true (column first.ChangeColumnInPage 0 low) t.decoder.output) (address v) ≡ verdicts.Accepted
+  low-05 : (v : ℕ) → verdict (put t true (column first.ChangeColumnInPage 0 low) t.decoder.output) (address v) ≡ (Ok tt)
   unfolding or_else row_of before_reset misplaced fits out_of_range lun_works no_copyback
   low-05 v = address-verdict (put t true (column first.ChangeColumnInPage 0 low) t.decoder.output) v
 
-  within-05 : (v : ℕ) → (column_from low v).0 < 768 → verdict (put t true (column first.ChangeColumnInPage 1 low) t.decoder.output) (address v) ≡ verdicts.Accepted
+  within-05 : (v : ℕ) → (column_from low v).0 < 768 → verdict (put t true (column first.ChangeColumnInPage 1 low) t.decoder.output) (address v) ≡ (Ok tt)
   unfolding or_else row_of before_reset misplaced fits out_of_range lun_works no_copyback
   within-05 v h =
       address-verdict (put t true (column first.ChangeColumnInPage 1 low) t.decoder.output) v ∙ (rw (lt-leb 768 (column_from low v).0 h))
 
-  beyond-05 : (v : ℕ) → 768 ≤ (column_from low v).0 → verdict (put t true (column first.ChangeColumnInPage 1 low) t.decoder.output) (address v) ≡ verdicts.Refused OutOfRange
+  beyond-05 : (v : ℕ) → 768 ≤ (column_from low v).0 → verdict (put t true (column first.ChangeColumnInPage 1 low) t.decoder.output) (address v) ≡ Err OutOfRange
   unfolding or_else row_of before_reset misplaced fits out_of_range
   beyond-05 v h =
       address-verdict (put t true (column first.ChangeColumnInPage 1 low) t.decoder.output) v ∙ (rw (le-leb 768 (column_from low v).0 h))
 
-fits-e0 : (t : Target) (c : Column) (r : Row) → verdict (put t true (due first.ChangeColumnInPage c r) t.decoder.output) (command 0xe0) ≡ verdicts.Accepted
+fits-e0 : (t : Target) (c : Column) (r : Row) → verdict (put t true (due first.ChangeColumnInPage c r) t.decoder.output) (command 0xe0) ≡ (Ok tt)
 unfolding or_else row_of first_of second_of second_row class_of offered before_reset unknown misplaced fits others_busy line_low
 fits-e0 t c r = command-verdict (put t true (due first.ChangeColumnInPage c r) t.decoder.output) 0xe0
 
-nothing-out : (t : Target) → on_out t true output.Nothing ≡ verdicts.Refused Misplaced
+nothing-out : (t : Target) → on_out t true output.Nothing ≡ Err Misplaced
 unfolding or_else
 nothing-out t = refl
 
-early-out : (t : Target) (l : ℕ) (at : Column) → works t.luns l ≡ true → on_out t true (output.Register l at) ≡ verdicts.Refused LunWorks
+early-out : (t : Target) (l : ℕ) (at : Column) → works t.luns l ≡ true → on_out t true (output.Register l at) ≡ Err LunWorks
 unfolding or_else
 early-out t l at h = rw (h)
 
@@ -446,7 +442,7 @@ has-begun g (output.Feature at) h = refl
 
 module _ (t : Target) (params : List ℕ) (b : Buffers) (flags : List ℕ) where
   -- an event accepted at a place, once the first FFh has come
-  taken_at : (s : Sequence) (e : Event) → t.decoder.sequence ≡ s → Live t params b flags → verdict (put t true s t.decoder.output) e ≡ verdicts.Accepted
+  taken_at : (s : Sequence) (e : Event) → t.decoder.sequence ≡ s → Live t params b flags → verdict (put t true s t.decoder.output) e ≡ (Ok tt)
       → step_of t e params b flags ≡ accepted (put t true s t.decoder.output) e params b flags
   taken_at s e at live h =
       accepts t e params b flags live.passes (verdict-at t params b flags s e at live ∙ h)
@@ -464,7 +460,7 @@ module _ (t : Target) (params : List ℕ) (b : Buffers) (flags : List ℕ) where
     holds = λ h. ap (λ (o : Outcome). o.target.decoder) (left-first t params b flags 0x78 refl none-78 h);
     still-holds = λ f c got low mid v more s h.
         ap (λ (o : Outcome). o.target.decoder.kept) (left_at t (address v) params b flags (row f c got low mid) s h)
-        ∙ ap (λ (x : Bool). row_kept t.geometry (pick x (given.Row (record { first = f; row = row_from low mid v })) given.Nothing) t.decoder.kept) more;
+        ∙ ap (λ (x : Bool). row_kept t.geometry (pick x (Some (given.Row (record { first = f; row = row_from low mid v }))) None) t.decoder.kept) more;
     row_keeps = λ c at low mid v s h is.
         let l = lun_of t.geometry (row_from low mid v) in
         ap (λ (d : Decoder). d.kept) ((status t params b flags).of_row c low mid v s h)
@@ -513,10 +509,10 @@ module _ (t : Target) (params : List ℕ) (b : Buffers) (flags : List ℕ) where
         (verdict-at t params b flags (bare low) (command v) s live ∙ command-00 t low v h k);
     in-page = λ is h.
         ap (λ (o : Outcome). o.target.decoder) (left-first t params b flags 0x05 refl none-05 h)
-        ∙ ap (λ (x : Bool). decoding (opened (pick x (found.Found first.ChangeColumnInPage) (found.Found first.ChangeColumn))) output.Nothing output.Nothing) is;
+        ∙ ap (λ (x : Bool). decoding (opened (pick x (Some first.ChangeColumnInPage) (Some first.ChangeColumn))) output.Nothing output.Nothing) is;
     in-register = λ is h.
         ap (λ (o : Outcome). o.target.decoder) (left-first t params b flags 0x05 refl none-05 h)
-        ∙ ap (λ (x : Bool). decoding (opened (pick x (found.Found first.ChangeColumnInPage) (found.Found first.ChangeColumn))) output.Nothing output.Nothing) is;
+        ∙ ap (λ (x : Bool). decoding (opened (pick x (Some first.ChangeColumnInPage) (Some first.ChangeColumn))) output.Nothing output.Nothing) is;
     page-low = λ low v s live.
         let p = taken_at (column first.ChangeColumnInPage 0 low) (address v) s live (low-05 t low v) in
         (ap (λ (o : Outcome). o.reply) p, ap (λ (o : Outcome). o.target.decoder) p);

@@ -25,7 +25,6 @@ use Rattle.target.specs.declared.First.TheVariants as first
 use Rattle.target.specs.declared.Sequence.{Sequence}
 use Rattle.target.specs.declared.Work.{Work}
 use Rattle.target.specs.declared.Work.TheVariants as work
-use Rattle.target.specs.declared.Verdict.TheVariants as verdicts
 use Rattle.rules.specs.Rules.{verdict, before_reset, unknown, misplaced, fits, others_busy, line_low}
 use Rattle.rules.proofs.ByKind.{command-verdict}
 use Rattle.effects.specs.Effects.{work_of, target_after, sequence_after}
@@ -39,6 +38,7 @@ use Rattle.step.specs.Step.{Buffers, Outcome, reply_of, worked, accepted_by, acc
 use Rattle.thm_steps.specs.Steps.{command, address, data_in, due, last_row, filling, moving, working, still_open, blanks, is_blank, Taken, Program, Erase}
 use Rattle.thm_steps.proofs.Places.{place-10, place-85, place-d0}
 use Rattle.thm_steps.proofs.Taken.{taken, command-fits, put, verdict-at, accepts, left_at, left-first, and_none}
+use Rattle.std.specs.Prelude.{Ok}
 
 -- a byte of a part
 pub part-byte : (xs : List ℕ) (at k i : ℕ) → i < k → get_or (part xs at k) i 0 ≡ get_or xs (at + i) 0
@@ -64,7 +64,7 @@ anded-byte xs ys at from k i fits fitsʳ low =
     ∙ ap (λ (n : ℕ). bit_and (get_or xs (at + i) 0) n) (part-byte ys from k i low)
 
 -- the verdict on 10h where data may come, with the line high
-fits-10 : (t : Target) (f : First) (r : Row) (c : Column) → t.high ≡ true → verdict (put t true (filling f r c) t.decoder.output) (command 0x10) ≡ verdicts.Accepted
+fits-10 : (t : Target) (f : First) (r : Row) (c : Column) → t.high ≡ true → verdict (put t true (filling f r c) t.decoder.output) (command 0x10) ≡ (Ok tt)
 unfolding or_else row_of first_of second_of second_row class_of offered before_reset unknown misplaced fits others_busy line_low
 fits-10 t f r c h = command-verdict (put t true (filling f r c) t.decoder.output) 0x10 ∙ (rw (h))
 

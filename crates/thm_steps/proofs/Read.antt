@@ -17,7 +17,6 @@ use Rattle.target.specs.declared.First.TheVariants as first
 use Rattle.target.specs.declared.Output.{Output}
 use Rattle.target.specs.declared.Reply.TheVariants as reply
 use Rattle.target.specs.declared.Refusal.TheVariants.{LunWorks}
-use Rattle.target.specs.declared.Verdict.TheVariants as verdicts
 use Rattle.rules.specs.Rules.{verdict, before_reset, misplaced, fits, out_of_range, lun_works, no_copyback}
 use Rattle.rules.proofs.ByKind.{address-verdict}
 use Rattle.effects.specs.Effects.{work_of, target_after, advanced, sequence_after, output_after, selected_after}
@@ -29,22 +28,23 @@ use Rattle.thm_steps.specs.Steps.{command, address, data_out, column, due, last_
 use Rattle.thm_steps.proofs.Taken.{command-fits, put, verdict-at, accepts, refuses, left_by, left_at, and_none}
 use Rattle.thm_steps.proofs.Places.{place-30}
 use Rattle.thm_steps.proofs.Reset.{reset}
+use Rattle.std.specs.Prelude.{Err, Ok}
 
 -- the verdict on the last row cycle of 06h on a working LUN
 works-06 : (t : Target) (c : Column) (low mid v : ℕ) → lun_exists t.geometry (row_from low mid v) ≡ true → works t.luns (lun_of t.geometry (row_from low mid v)) ≡ true
-    → verdict (put t true (last_row first.ChangeColumnEnhanced c low mid) t.decoder.output) (address v) ≡ verdicts.Refused LunWorks
+    → verdict (put t true (last_row first.ChangeColumnEnhanced c low mid) t.decoder.output) (address v) ≡ Err LunWorks
 unfolding or_else row_of before_reset misplaced fits out_of_range lun_works
 works-06 t c low mid v h k = address-verdict (put t true (last_row first.ChangeColumnEnhanced c low mid) t.decoder.output) v ∙ (rw (h, k))
 
 -- and on the second column cycle of 05h
 works-05 : (t : Target) (low v : ℕ) → (column_from low v).0 < page_size t.geometry → works t.luns t.selected ≡ true
-    → verdict (put t true (column first.ChangeColumn 1 low) t.decoder.output) (address v) ≡ verdicts.Refused LunWorks
+    → verdict (put t true (column first.ChangeColumn 1 low) t.decoder.output) (address v) ≡ Err LunWorks
 unfolding or_else row_of before_reset misplaced fits out_of_range lun_works
 works-05 t low v h k =
     address-verdict (put t true (column first.ChangeColumn 1 low) t.decoder.output) v
     ∙ (rw (lt-leb (page_size t.geometry) (column_from low v).0 h, k))
 
-early-05 : (t : Target) (v : ℕ) → verdict (put t true (column first.ChangeColumn 0 0) t.decoder.output) (address v) ≡ verdicts.Accepted
+early-05 : (t : Target) (v : ℕ) → verdict (put t true (column first.ChangeColumn 0 0) t.decoder.output) (address v) ≡ (Ok tt)
 unfolding or_else row_of before_reset misplaced fits out_of_range lun_works no_copyback
 early-05 t v = address-verdict (put t true (column first.ChangeColumn 0 0) t.decoder.output) v
 

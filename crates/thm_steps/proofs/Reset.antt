@@ -8,7 +8,6 @@ use Rattle.target.specs.Pick.{or_else}
 use Rattle.target.specs.Commands.{row_of, first_of, second_of, second_row, class_of, offered}
 use Rattle.target.specs.Place.{is_open}
 use Rattle.target.specs.declared.Target.{Target}
-use Rattle.target.specs.declared.Verdict.TheVariants as verdicts
 use Rattle.rules.specs.Rules.{verdict, before_reset, unknown, misplaced, fits, others_busy, line_low}
 use Rattle.rules.proofs.ByKind.{command-verdict}
 use Rattle.effects.specs.Effects.{work_of, target_after, sequence_after, output_after, selected_after, clear_after, high_after}
@@ -19,8 +18,9 @@ use Rattle.step.specs.Step.{Buffers, reply_of, worked, accepted_by, accepted}
 use Rattle.thm_kept.proofs.Choice.{or-true}
 use Rattle.thm_steps.specs.Steps.{command, Reset}
 use Rattle.thm_steps.proofs.Taken.{accepts}
+use Rattle.std.specs.Prelude.{Ok}
 
-reset-verdict : (t : Target) → verdict t (command 0xff) ≡ verdicts.Accepted
+reset-verdict : (t : Target) → verdict t (command 0xff) ≡ (Ok tt)
 unfolding or_else before_reset unknown row_of first_of second_of second_row class_of offered misplaced fits others_busy line_low
 reset-verdict t = command-verdict t 0xff ∙ (rw (or-true (is_open t.decoder.sequence && false)))
 

@@ -24,20 +24,15 @@ use Rattle.target.specs.declared.Findings.{Findings}
 use Rattle.target.specs.declared.First.{First}
 use Rattle.target.specs.declared.First.TheVariants as first
 use Rattle.target.specs.declared.Second.TheVariants.{StartRead, StartOutput, StartProgram, StartErase, Move, StartCopyback}
-use Rattle.target.specs.declared.commands.SecondFound.{SecondFound}
-use Rattle.target.specs.declared.commands.SecondFound.TheVariants as second
 use Rattle.target.specs.declared.RowCycles.{RowCycles}
 use Rattle.target.specs.declared.Sequence.{Sequence}
 use Rattle.target.specs.declared.Sequence.TheVariants.{Idle, Columns, Rows, Single, Due, Filling, Moving, Setting}
 use Rattle.target.specs.declared.views.Given.{Given}
 use Rattle.target.specs.declared.views.Given.TheVariants as given
-use Rattle.target.specs.declared.views.Ender.{Ender}
 use Rattle.target.specs.declared.Output.{Output}
 use Rattle.target.specs.declared.Output.TheVariants as output
 use Rattle.target.specs.declared.Refusal.TheVariants.{BeforeReset, Misplaced, LunWorks, PastEnd}
 use Rattle.target.specs.declared.Reply.TheVariants as reply
-use Rattle.target.specs.declared.Verdict.{Verdict}
-use Rattle.target.specs.declared.Verdict.TheVariants as verdicts
 use Rattle.rules.specs.Rules.{verdict, before_reset, misplaced, fits, lun_works, past_end, output_works, output_ended}
 use Rattle.rules.proofs.ByKind.{out-verdict}
 use Rattle.target.proofs.Both.{both}
@@ -52,16 +47,20 @@ use Rattle.thm_kept.proofs.Choice.{by-pick, then-not}
 use Rattle.thm_steps.specs.Steps.{address, data_out, finish, last_row, decoding, begins_work, Work, Status, Live}
 use Rattle.thm_steps.proofs.Places.{by-ending, closes-80}
 use Rattle.thm_steps.proofs.Taken.{put, accepts, left_by, left_at, left-first}
+use Rattle.std.specs.Prelude.{Err, None, Ok, Option, Result, Some}
+use Rattle.target.specs.declared.views.Ended.{Ended}
+use Rattle.target.specs.declared.Refusal.{Refusal}
+use Rattle.target.specs.declared.Second.{Second}
 
 -- Work: a second command that is none of 30h, 35h, 10h and D0h leaves the LUN records.
 
-abbrev found_starts : SecondFound → Bool
-found_starts second.Nothing = false
-found_starts (second.Found s) = (second_row s).starts
+abbrev found_starts : Option Second → Bool
+found_starts None = false
+found_starts (Some s) = (second_row s).starts
 
 by_tests : (a c p q o m : Bool) → (a || c || p || q) ≡ false
-    → found_starts (pick a (second.Found StartRead) (pick o (second.Found StartOutput) (pick p (second.Found StartProgram)
-    (pick q (second.Found StartErase) (pick m (second.Found Move) (pick c (second.Found StartCopyback) second.Nothing))))))
+    → found_starts (pick a (Some StartRead) (pick o (Some StartOutput) (pick p (Some StartProgram)
+    (pick q (Some StartErase) (pick m (Some Move) (pick c (Some StartCopyback) None))))))
     ≡ false
 unfolding second_row
 by_tests true c p q o m h = absurd (false≢true (sym h))
@@ -91,14 +90,14 @@ stored-leaves says (x ∷ xs) (suc i) (suc l) y same = stored-leaves says xs i l
 
 -- a row that closes a copyback leaves what else the records say
 module _ (g : Geometry) (luns : List Lun) where
-  pub row-leaves : {A : Type 0} (says : Lun → A) → ((x : Lun) → says (lun_closed x) ≡ says x) → (k : Given) (l : ℕ)
+  pub row-leaves : {A : Type 0} (says : Lun → A) → ((x : Lun) → says (lun_closed x) ≡ says x) → (k : Option Given) (l : ℕ)
       → says (lun_at (addressed_luns g luns k) l) ≡ says (lun_at luns l)
-  row-leaves says same given.Nothing l = refl
-  row-leaves says same (given.Column k) l = refl
-  row-leaves says same (given.Row k) l =
+  row-leaves says same None l = refl
+  row-leaves says same (Some (given.Column k)) l = refl
+  row-leaves says same (Some (given.Row k)) l =
       by-pick (λ (x : List Lun). says (lun_at x l) ≡ says (lun_at luns l)) (closes_copyback k.first) _ _
       (λ _. stored-leaves says luns (lun_of g k.row) l _ (same _)) (λ _. refl)
-  row-leaves says same (given.Single k) l = refl
+  row-leaves says same (Some (given.Single k)) l = refl
 
   -- and where it is not the last cycle of 80h's row, all
   last-leaves : (k : RowCycles) → ((c : Column) (low mid : ℕ) → Rows k ≡ last_row first.Program c low mid → ⊥)
@@ -111,24 +110,24 @@ module _ (g : Geometry) (luns : List Lun) where
   no-row-closes : (s : Sequence) (v : ℕ) → ((c : Column) (low mid : ℕ) → s ≡ last_row first.Program c low mid → ⊥)
       → addressed_luns g luns (completed s v) ≡ luns
   no-row-closes Idle v other = refl
-  no-row-closes (Columns k) v other = by-pick (λ (x : Given). addressed_luns g luns x ≡ luns) (eqb k.got 1) _ _ (λ _. refl) (λ _. refl)
+  no-row-closes (Columns k) v other = by-pick (λ (x : Option Given). addressed_luns g luns x ≡ luns) (eqb k.got 1) _ _ (λ _. refl) (λ _. refl)
   no-row-closes (Rows k) v other =
-      by-pick (λ (x : Given). addressed_luns g luns x ≡ luns) (eqb k.got 2) _ _
+      by-pick (λ (x : Option Given). addressed_luns g luns x ≡ luns) (eqb k.got 2) _ _
       (λ last. ap (λ (x : Bool). pick x (set luns (lun_of g (row_from k.low k.mid v)) (lun_closed (lun_at luns (lun_of g (row_from k.low k.mid v))))) luns) (last-leaves k other last))
       (λ _. refl)
   no-row-closes (Single f) v other = refl
   no-row-closes (Due k) v other = refl
   no-row-closes (Filling k) v other = refl
-  no-row-closes (Moving k) v other = by-pick (λ (x : Given). addressed_luns g luns x ≡ luns) (eqb k.got 1) _ _ (λ _. refl) (λ _. refl)
+  no-row-closes (Moving k) v other = by-pick (λ (x : Option Given). addressed_luns g luns x ≡ luns) (eqb k.got 1) _ _ (λ _. refl) (λ _. refl)
   no-row-closes (Setting k) v other = refl
 
 module _ (g : Geometry) (luns : List Lun) (found : Findings) where
-  quiet-found : (k : SecondFound) (f : First) (c : Column) (r : Row) → found_starts k ≡ false → ended_luns g luns (ended_with k f c r) found ≡ luns
-  quiet-found second.Nothing f c r h = refl
-  quiet-found (second.Found s) f c r h = rw (h)
+  quiet-found : (k : Option Second) (f : First) (c : Column) (r : Row) → found_starts k ≡ false → ended_luns g luns (ended_with k f c r) found ≡ luns
+  quiet-found None f c r h = refl
+  quiet-found (Some s) f c r h = rw (h)
 
   quiet : (v : ℕ) → found_starts (second_of v) ≡ false → (s : Sequence) → ended_luns g luns (ending s v) found ≡ luns
-  quiet v h s = by-ending (λ (x : Ender). ended_luns g luns x found ≡ luns) v refl (λ f c r. quiet-found (second_of v) f c r h) s
+  quiet v h s = by-ending (λ (x : Option Ended). ended_luns g luns x found ≡ luns) v refl (λ f c r. quiet-found (second_of v) f c r h) s
 
   -- so what holds of the records as they are, and after a row, holds after every event that neither begins nor ends work
   else-by : (P : List Lun → Type 0) (s : Sequence) (e : Event) → begins_work e ≡ false → eqb e.kind 4 ≡ false → is_reset e ≡ false
@@ -153,7 +152,7 @@ finished-luns : (t : Target) (l : ℕ) (found : Findings) → luns_after t.geome
 unfolding luns_after
 finished-luns t l found = refl
 
-pub none-70 : second_of 0x70 ≡ second.Nothing
+pub none-70 : second_of 0x70 ≡ None
 unfolding second_of second_row
 none-70 = refl
 
@@ -164,9 +163,9 @@ pick-not true a b = refl
 pick-not false a b = refl
 
 -- the verdict on a data-out cycle that puts this out
-abbrev pub on_out : Target → Bool → Output → Verdict
+abbrev pub on_out : Target → Bool → Output → Result Unit Refusal
 on_out t seen o =
-    or_else (not seen) BeforeReset (or_else (not (has_output o)) Misplaced (or_else (output_works t.luns o) LunWorks (or_else (output_ended t.geometry o) PastEnd verdicts.Accepted)))
+    or_else (not seen) BeforeReset (or_else (not (has_output o)) Misplaced (or_else (output_works t.luns o) LunWorks (or_else (output_ended t.geometry o) PastEnd (Ok tt))))
 
 pub on_out_lem : (t : Target) → verdict t data_out ≡ on_out t t.seen (put_out t.decoder)
 unfolding or_else bad_record before_reset misplaced fits lun_works past_end
@@ -175,11 +174,11 @@ on_out_lem t = out-verdict t 0
 pub puts-out : (t : Target) (o : Output) → t.seen ≡ true → put_out t.decoder ≡ o → verdict t data_out ≡ on_out t true o
 puts-out t o seen h = on_out_lem t ∙ ap (λ (x : Bool). on_out t x (put_out t.decoder)) seen ∙ ap (on_out t true) h
 
-pub more-out : (t : Target) (o : Output) → has_output o ≡ true → output_works t.luns o ≡ false → output_ended t.geometry o ≡ false → on_out t true o ≡ verdicts.Accepted
+pub more-out : (t : Target) (o : Output) → has_output o ≡ true → output_works t.luns o ≡ false → output_ended t.geometry o ≡ false → on_out t true o ≡ (Ok tt)
 unfolding or_else
 more-out t o h k l = rw (h, k, l)
 
-pub none_out : (t : Target) (o : Output) → has_output o ≡ true → output_works t.luns o ≡ false → output_ended t.geometry o ≡ true → on_out t true o ≡ verdicts.Refused PastEnd
+pub none_out : (t : Target) (o : Output) → has_output o ≡ true → output_works t.luns o ≡ false → output_ended t.geometry o ≡ true → on_out t true o ≡ Err PastEnd
 unfolding or_else
 none_out t o h k l = rw (h, k, l)
 

@@ -19,14 +19,9 @@ use Rattle.target.specs.declared.Target.{Target}
 use Rattle.target.specs.declared.Sequence.{Sequence}
 use Rattle.target.specs.declared.Sequence.TheVariants.{Idle, Columns, Rows, Single, Due, Filling, Moving, Setting}
 use Rattle.target.specs.declared.Output.{Output}
-use Rattle.target.specs.declared.commands.SecondFound.{SecondFound}
-use Rattle.target.specs.declared.commands.SecondFound.TheVariants as second
-use Rattle.target.specs.declared.views.Ender.{Ender}
 use Rattle.target.specs.declared.Refusal.{Refusal}
 use Rattle.target.specs.declared.Refusal.TheVariants.{NotUsable}
 use Rattle.target.specs.declared.Reply.TheVariants as reply
-use Rattle.target.specs.declared.Verdict.{Verdict}
-use Rattle.target.specs.declared.Verdict.TheVariants as verdicts
 use Rattle.rules.specs.Rules.{verdict, fits, misplaced}
 use Rattle.rules.proofs.Passed.{all-passed}
 use Rattle.effects.specs.Effects.{target_refused}
@@ -35,6 +30,9 @@ use Rattle.thm_kept.specs.Kept.{lets_pass}
 use Rattle.thm_kept.proofs.Kept.{step-steady}
 use Rattle.thm_steps.specs.Steps.{command, Taken, RefusedWith, Live}
 use Rattle.thm_steps.proofs.Places.{by-ending}
+use Rattle.std.specs.Prelude.{Err, None, Ok, Option, Result}
+use Rattle.target.specs.declared.views.Ended.{Ended}
+use Rattle.target.specs.declared.Second.{Second}
 
 -- the record with this mark of the first FFh, this place reached and this output; what is kept stays
 abbrev pub put : Target → Bool → Sequence → Output → Target
@@ -68,41 +66,41 @@ and_none true = refl
 and_none false = refl
 
 module _ (t : Target) (e : Event) (params : List ℕ) (b : Buffers) (flags : List ℕ) where
-  by-verdict : (v : Verdict) → ((q : Refusal) → (by_verdict v t e params b flags).reply ≡ reply.Refused q → ⊥) → v ≡ verdicts.Accepted
+  by-verdict : (v : Result Unit Refusal) → ((q : Refusal) → (by_verdict v t e params b flags).reply ≡ reply.Refused q → ⊥) → v ≡ (Ok tt)
   unfolding by_verdict
-  by-verdict verdicts.Accepted h = refl
-  by-verdict (verdicts.Refused r) h = absurd (h r refl)
+  by-verdict (Ok tt) h = refl
+  by-verdict (Err r) h = absurd (h r refl)
 
   by-usable : (ok : Bool) → ((q : Refusal) → (pick ok (steady t e params b flags) (record { reply = reply.Refused NotUsable; target = t; buffers = b })).reply ≡ reply.Refused q → ⊥)
-      → (ok ≡ true) × (verdict t e ≡ verdicts.Accepted)
+      → (ok ≡ true) × (verdict t e ≡ (Ok tt))
   unfolding steady
   by-usable true h = (refl, by-verdict (verdict t e) h)
   by-usable false h = absurd (h NotUsable refl)
 
-  pub taken : Taken t params b flags e → (lets_pass t params b flags ≡ true) × (verdict t e ≡ verdicts.Accepted)
+  pub taken : Taken t params b flags e → (lets_pass t params b flags ≡ true) × (verdict t e ≡ (Ok tt))
   unfolding step_of
   taken h = by-usable (lets_pass t params b flags) h
 
   -- by its verdict, where rule 13 lets pass
-  pub decided : (v : Verdict) → lets_pass t params b flags ≡ true → verdict t e ≡ v → step_of t e params b flags ≡ by_verdict v t e params b flags
+  pub decided : (v : Result Unit Refusal) → lets_pass t params b flags ≡ true → verdict t e ≡ v → step_of t e params b flags ≡ by_verdict v t e params b flags
   unfolding steady
-  decided v ok h = step-steady t e params b flags ok ∙ ap (λ (x : Verdict). by_verdict x t e params b flags) h
+  decided v ok h = step-steady t e params b flags ok ∙ ap (λ (x : Result Unit Refusal). by_verdict x t e params b flags) h
 
-  pub accepts : lets_pass t params b flags ≡ true → verdict t e ≡ verdicts.Accepted → step_of t e params b flags ≡ accepted t e params b flags
+  pub accepts : lets_pass t params b flags ≡ true → verdict t e ≡ (Ok tt) → step_of t e params b flags ≡ accepted t e params b flags
   unfolding by_verdict
-  accepts ok h = decided verdicts.Accepted ok h
+  accepts ok h = decided (Ok tt) ok h
 
-  pub refuses : (r : Refusal) (n : ℕ) → number_of r ≡ n → lets_pass t params b flags ≡ true → verdict t e ≡ verdicts.Refused r → RefusedWith t params b flags n e
+  pub refuses : (r : Refusal) (n : ℕ) → number_of r ≡ n → lets_pass t params b flags ≡ true → verdict t e ≡ Err r → RefusedWith t params b flags n e
   unfolding by_verdict
-  refuses r n same ok h = (r, (ap (λ (o : Outcome). o.reply) (decided (verdicts.Refused r) ok h), same))
+  refuses r n same ok h = (r, (ap (λ (o : Outcome). o.reply) (decided (Err r) ok h), same))
 
   -- a refusal is the verdict's where rule 13 lets pass, and else 13, which changes nothing
-  by-refusal : (v : Verdict) (q : Refusal) → (by_verdict v t e params b flags).reply ≡ reply.Refused q → v ≡ verdicts.Refused q
+  by-refusal : (v : Result Unit Refusal) (q : Refusal) → (by_verdict v t e params b flags).reply ≡ reply.Refused q → v ≡ Err q
   unfolding by_verdict accepted accepted_by reply_of
-  by-refusal verdicts.Accepted q h = absurd (no-refusal (eqb e.kind 3) _ q h)
-  by-refusal (verdicts.Refused r) q h = let is : reply.Refused r ≡ reply.Refused q = h in cc
+  by-refusal (Ok tt) q h = absurd (no-refusal (eqb e.kind 3) _ q h)
+  by-refusal (Err r) q h = let is : reply.Refused r ≡ reply.Refused q = h in cc
 
-  pub refused-by : (q : Refusal) → (step_of t e params b flags).reply ≡ reply.Refused q → lets_pass t params b flags ≡ true → verdict t e ≡ verdicts.Refused q
+  pub refused-by : (q : Refusal) → (step_of t e params b flags).reply ≡ reply.Refused q → lets_pass t params b flags ≡ true → verdict t e ≡ Err q
   unfolding steady
   refused-by q h ok = by-refusal (verdict t e) q (sym (ap (λ (o : Outcome). o.reply) (step-steady t e params b flags ok)) ∙ h)
 
@@ -114,10 +112,10 @@ module _ (t : Target) (e : Event) (params : List ℕ) (b : Buffers) (flags : Lis
   abbrev Leaves : Outcome → Type 0
   Leaves o = (o.buffers ≡ b) × (o.target.luns ≡ t.luns)
 
-  verdict-leaves : (v : Verdict) (q : Refusal) → (by_verdict v t e params b flags).reply ≡ reply.Refused q → Leaves (by_verdict v t e params b flags)
+  verdict-leaves : (v : Result Unit Refusal) (q : Refusal) → (by_verdict v t e params b flags).reply ≡ reply.Refused q → Leaves (by_verdict v t e params b flags)
   unfolding by_verdict accepted accepted_by reply_of target_refused
-  verdict-leaves verdicts.Accepted q h = absurd (no-refusal (eqb e.kind 3) _ q h)
-  verdict-leaves (verdicts.Refused r) q h = (refl, refl)
+  verdict-leaves (Ok tt) q h = absurd (no-refusal (eqb e.kind 3) _ q h)
+  verdict-leaves (Err r) q h = (refl, refl)
 
   usable-leaves : (ok : Bool) (q : Refusal) → (pick ok (steady t e params b flags) (record { reply = reply.Refused NotUsable; target = t; buffers = b })).reply ≡ reply.Refused q
       → Leaves (pick ok (steady t e params b flags) (record { reply = reply.Refused NotUsable; target = t; buffers = b }))
@@ -138,13 +136,13 @@ module _ (t : Target) (e : Event) (params : List ℕ) (b : Buffers) (flags : Lis
   left_at s k h = left_by h ∙ ap (λ (x : Target). accepted x e params b flags) (at_place t s k)
 
 -- a command that is no second command is accepted with no sequence open alone
-not-ended : (k : SecondFound) (f : First) (c : Column) (r : Row) → k ≡ second.Nothing → is_ended (ended_with k f c r) ≡ false
+not-ended : (k : Option Second) (f : First) (c : Column) (r : Row) → k ≡ None → is_ended (ended_with k f c r) ≡ false
 not-ended k f c r h = rw (h)
 
-ends-nothing : (s : Sequence) (v : ℕ) → second_of v ≡ second.Nothing → is_ended (ending s v) ≡ false
-ends-nothing s v h = by-ending (λ (x : Ender). is_ended x ≡ false) v refl (λ f c r. not-ended (second_of v) f c r h) s
+ends-nothing : (s : Sequence) (v : ℕ) → second_of v ≡ None → is_ended (ending s v) ≡ false
+ends-nothing s v h = by-ending (λ (x : Option Ended). is_ended x ≡ false) v refl (λ f c r. not-ended (second_of v) f c r h) s
 
-pub fits-idle : (s : Sequence) (v : ℕ) → second_of v ≡ second.Nothing → command_fits s v ≡ true → s ≡ Idle
+pub fits-idle : (s : Sequence) (v : ℕ) → second_of v ≡ None → command_fits s v ≡ true → s ≡ Idle
 fits-idle Idle v h k = refl
 fits-idle (Columns x) v h k = absurd (false≢true k)
 fits-idle (Rows x) v h k = absurd (false≢true k)
@@ -169,10 +167,10 @@ module _ (t : Target) (params : List ℕ) (b : Buffers) (flags : List ℕ) where
       let placed = not-true-not (takes_command t.decoder.sequence v) (all-passed t (command v) (taken t (command v) params b flags h).1).rule-3 in
       subst (λ (x : Bool). (x || command_fits t.decoder.sequence v) ≡ true) other placed
 
-  pub idle-before : (v : ℕ) → eqb v 0xff ≡ false → second_of v ≡ second.Nothing → Taken t params b flags (command v) → t.decoder.sequence ≡ Idle
+  pub idle-before : (v : ℕ) → eqb v 0xff ≡ false → second_of v ≡ None → Taken t params b flags (command v) → t.decoder.sequence ≡ Idle
   idle-before v other none h = fits-idle t.decoder.sequence v none (command-fits v other h)
 
   -- so a first command that is accepted finds no sequence open
-  pub left-first : (v : ℕ) → eqb v 0xff ≡ false → second_of v ≡ second.Nothing → Taken t params b flags (command v)
+  pub left-first : (v : ℕ) → eqb v 0xff ≡ false → second_of v ≡ None → Taken t params b flags (command v)
       → step_of t (command v) params b flags ≡ accepted (put t t.seen Idle t.decoder.output) (command v) params b flags
   left-first v other none h = left_at t (command v) params b flags Idle (idle-before v other none h) h

@@ -26,8 +26,6 @@ use Rattle.target.specs.declared.Output.{Output}
 use Rattle.target.specs.declared.Output.TheVariants as output
 use Rattle.target.specs.declared.Refusal.TheVariants.{NotUsable}
 use Rattle.target.specs.declared.Reply.TheVariants.{Refused}
-use Rattle.target.specs.declared.Verdict.{Verdict}
-use Rattle.target.specs.declared.Verdict.TheVariants as verdicts
 use Rattle.target.proofs.Both.{both, both3, both4}
 use Rattle.power.specs.Power.{powered_of}
 use Rattle.rules.specs.Rules.{verdict}
@@ -41,14 +39,16 @@ use Rattle.thm_demands.specs.Runs.{step_at, left, after, powered_up}
 use Rattle.thm_demands.proofs.Promised.{powered-fit, run-fit}
 use Rattle.thm_tight.specs.Tight.{Reached, Stands, Shows, Keeps, SequenceGiven, EachGiven, OutputGiven, KeptGiven, ByItself}
 use Rattle.thm_tight.proofs.Marks.{one-mark}
+use Rattle.std.specs.Prelude.{Err, Ok, Result}
+use Rattle.target.specs.declared.Refusal.{Refusal}
 
 -- No event changes the geometry.
 
 module _ (t : Target) (e : Event) (page : List ℕ) (b : Buffers) (flags : List ℕ) where
-  by-verdict : (v : Verdict) → (by_verdict v t e page b flags).target.geometry ≡ t.geometry
+  by-verdict : (v : Result Unit Refusal) → (by_verdict v t e page b flags).target.geometry ≡ t.geometry
   unfolding by_verdict accepted accepted_by target_after target_refused
-  by-verdict verdicts.Accepted = refl
-  by-verdict (verdicts.Refused r) = refl
+  by-verdict (Ok tt) = refl
+  by-verdict (Err r) = refl
 
   by-usable : (ok : Bool) → (pick ok (steady t e page b flags) (record { reply = Refused NotUsable; target = t; buffers = b })).target.geometry ≡ t.geometry
   unfolding steady

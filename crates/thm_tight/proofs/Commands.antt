@@ -22,11 +22,11 @@ use Rattle.target.specs.declared.First.TheVariants.{Read, ChangeColumn, ChangeCo
 use Rattle.target.specs.declared.Output.TheVariants as output
 use Rattle.target.specs.declared.commands.Then.{Then}
 use Rattle.target.specs.declared.commands.Then.TheVariants as then
-use Rattle.target.specs.declared.commands.FirstFound.TheVariants as first
 use Rattle.target.proofs.Both.{both3, both5}
 use Rattle.target.proofs.Firsts.{each_first}
 use Rattle.effects.specs.Effects.{first_output, shown}
 use Rattle.thm_kept.proofs.Commands.{looks_at_page}
+use Rattle.std.specs.Prelude.{Some}
 
 -- every bit but that of the 16-bit bus
 abbrev pub every : Words
@@ -53,7 +53,7 @@ silent-test : (f : First) → (not (addresses f) || not (eqb (cycles_of f) 0)) �
 unfolding row_of
 silent-test f = each_first (λ (x : First). not (addresses x) || not (eqb (cycles_of x) 0)) refl f
 
-pub no_output : (f : First) (selected : ℕ) → addresses f ≡ true → first_output selected (first.Found f) ≡ output.Nothing
+pub no_output : (f : First) (selected : ℕ) → addresses f ≡ true → first_output selected (Some f) ≡ output.Nothing
 no_output f selected h = by (eqb (cycles_of f) 0) (modus (addresses f) (not (eqb (cycles_of f) 0)) (silent-test f) h)
   where
     by : (b : Bool) → not b ≡ true → pick b (shown (then_of f) selected 0 output.Nothing) output.Nothing ≡ output.Nothing

@@ -28,11 +28,8 @@ use Rattle.target.specs.declared.Sequence.{Sequence}
 use Rattle.target.specs.declared.Sequence.TheVariants.{Idle, Due, Filling}
 use Rattle.target.specs.declared.Output.{Output}
 use Rattle.target.specs.declared.Output.TheVariants as output
-use Rattle.target.specs.declared.Verdict.TheVariants.{Accepted}
 use Rattle.target.specs.declared.commands.Waits.{Waits}
 use Rattle.target.specs.declared.commands.Waits.TheVariants as waits
-use Rattle.target.specs.declared.commands.FirstFound.{FirstFound}
-use Rattle.target.specs.declared.commands.FirstFound.TheVariants as first
 use Rattle.target.specs.declared.views.Given.{Given}
 use Rattle.target.specs.declared.views.Given.TheVariants as given
 use Rattle.rules.specs.Rules.{unknown, before_reset, fits, misplaced, beyond, out_of_range, names_working, output_works, lun_works, lacks_copyback, no_copyback, work_for, others_work_for, others_busy, is_guarded, line_low, data_ended, output_ended, past_end, unoffered, not_offered}
@@ -45,6 +42,7 @@ use Rattle.step.specs.Buffers.{findings}
 use Rattle.thm_tight.proofs.Commands.{every, fresh}
 use Rattle.thm_tight.proofs.Part.{Part, Fine, flags_of}
 use Rattle.thm_tight.proofs.Ways.{Way, found_in, at-power, onward}
+use Rattle.std.specs.Prelude.{None, Ok, Option, Some}
 
 -- a part with every option
 abbrev pub full : Geometry → ℕ → Part
@@ -108,7 +106,7 @@ abbrev pub Calm : List Lun → Type 0
 Calm luns = (l : ℕ) → works luns l ≡ false
 
 -- what an address completes asks for no copyback, and closes none
-pub record Unasked (g : Geometry) (luns : List Lun) (k : Given) : Type 0 where
+pub record Unasked (g : Geometry) (luns : List Lun) (k : Option Given) : Type 0 where
   pub lacks : lacks_copyback g luns k ≡ false
   pub closes : addressed_luns g luns k ≡ luns
 
@@ -116,11 +114,11 @@ module _ (luns : List Lun) (calm : Calm luns) where
   asked-not : (b : Bool) (l : ℕ) → (b && works luns l) ≡ false
   asked-not b l = rw (calm l) (and_no b)
 
-  names-not : (g : Geometry) (selected : ℕ) (k : Given) → names_working g luns selected k ≡ false
-  names-not g selected given.Nothing = refl
-  names-not g selected (given.Column k) = asked-not k.asks selected
-  names-not g selected (given.Row k) = asked-not (needs_ready k.first) (lun_of g k.row)
-  names-not g selected (given.Single k) = refl
+  names-not : (g : Geometry) (selected : ℕ) (k : Option Given) → names_working g luns selected k ≡ false
+  names-not g selected None = refl
+  names-not g selected (Some (given.Column k)) = asked-not k.asks selected
+  names-not g selected (Some (given.Row k)) = asked-not (needs_ready k.first) (lun_of g k.row)
+  names-not g selected (Some (given.Single k)) = refl
 
   work-not : (selected : ℕ) (w : Waits) → work_for luns selected w ≡ false
   work-not selected waits.Nobody = refl
@@ -133,9 +131,9 @@ module _ (luns : List Lun) (calm : Calm luns) where
       )
   work-not selected waits.All = rw (calm 0, calm 1, calm 2, calm 3)
 
-  others-not : (selected : ℕ) (found : FirstFound) → others_work_for luns selected found ≡ false
-  others-not selected first.Nothing = refl
-  others-not selected (first.Found f) = work-not selected (waits_for f)
+  others-not : (selected : ℕ) (found : Option First) → others_work_for luns selected found ≡ false
+  others-not selected None = refl
+  others-not selected (Some f) = work-not selected (waits_for f)
 
   -- A first command, with no sequence open.
 
@@ -163,7 +161,7 @@ module _ (luns : List Lun) (calm : Calm luns) where
     unfolding line_low
     is-high = and_no (is_guarded (second_of (byte_of f)))
 
-    opens : rules.verdict opening (event 0 (byte_of f)) ≡ Accepted
+    opens : rules.verdict opening (event 0 (byte_of f)) ≡ (Ok tt)
     unfolding or_else
     opens = command-verdict opening (byte_of f) ∙ rw (is_seen, is_known, is-fit, is_free, is-high)
 
@@ -204,32 +202,32 @@ second_fits o (copying e) = rw (e)
 second_fits o moving = refl
 second_fits o programming = refl
 
-second-accepted : (g : Geometry) (luns : List Lun) (selected : ℕ) (o : Output) {s : Sequence} {v : ℕ} → Second s v → rules.verdict (standing g luns selected s o) (event 0 v) ≡ Accepted
+second-accepted : (g : Geometry) (luns : List Lun) (selected : ℕ) (o : Output) {s : Sequence} {v : ℕ} → Second s v → rules.verdict (standing g luns selected s o) (event 0 v) ≡ (Ok tt)
 unfolding or_else before_reset line_low
 second-accepted g luns selected o {s} {v} which =
     let p = second-known luns which in
     command-verdict (standing g luns selected s o) v
     ∙ rw (and_no (not (eqb v 0xff)), p.0, second_fits o which, p.1 selected, and_no (is_guarded (second_of v)))
 
-reset-accepted : (t : Target) → rules.verdict t (event 0 0xff) ≡ Accepted
+reset-accepted : (t : Target) → rules.verdict t (event 0 0xff) ≡ (Ok tt)
 unfolding or_else before_reset unknown class_of offered misplaced fits others_busy line_low row_of first_of second_of second_row
 reset-accepted t = command-verdict t 0xff ∙ rw (and_no (is_open t.decoder.sequence))
 
 -- where none is kept an address leaves none
-none_kept : (g : Geometry) (bare : Bool) (k : Given) → pick bare output.Nothing (row_kept g k output.Nothing) ≡ output.Nothing
+none_kept : (g : Geometry) (bare : Bool) (k : Option Given) → pick bare output.Nothing (row_kept g k output.Nothing) ≡ output.Nothing
 none_kept g true k = refl
-none_kept g false given.Nothing = refl
-none_kept g false (given.Column k) = refl
-none_kept g false (given.Row k) = by (gives_status k.first && true)
+none_kept g false None = refl
+none_kept g false (Some (given.Column k)) = refl
+none_kept g false (Some (given.Row k)) = by (gives_status k.first && true)
   where
     by : (b : Bool) → pick b output.Nothing output.Nothing ≡ output.Nothing
     by true = refl
     by false = refl
-none_kept g false (given.Single k) = refl
+none_kept g false (Some (given.Single k)) = refl
 
 -- the rules that each of the other cycles can meet
 module _ (g : Geometry) (luns : List Lun) (calm : Calm luns) (selected : ℕ) (s : Sequence) (o : Output) where
-  address-accepted : (v : ℕ) → takes_address s ≡ true → beyond g (completed s v) ≡ false → Unasked g luns (completed s v) → rules.verdict (standing g luns selected s o) (event 1 v) ≡ Accepted
+  address-accepted : (v : ℕ) → takes_address s ≡ true → beyond g (completed s v) ≡ false → Unasked g luns (completed s v) → rules.verdict (standing g luns selected s o) (event 1 v) ≡ (Ok tt)
   unfolding or_else before_reset misplaced fits out_of_range lun_works no_copyback
   address-accepted v h near free =
       address-verdict (standing g luns selected s o) v ∙ rw (h, near, names-not luns calm g selected (completed s v), free.lacks)
@@ -239,7 +237,7 @@ module _ (g : Geometry) (luns : List Lun) (calm : Calm luns) (selected : ℕ) (s
   address-leaves v found free = rw (free.closes, none_kept g (is_bare s) (completed s v))
 
   -- data out with no sequence open
-  out-accepted : has_output o ≡ true → output_works luns o ≡ false → output_ended g o ≡ false → rules.verdict (standing g luns selected Idle o) (event 3 0) ≡ Accepted
+  out-accepted : has_output o ≡ true → output_works luns o ≡ false → output_ended g o ≡ false → rules.verdict (standing g luns selected Idle o) (event 3 0) ≡ (Ok tt)
   unfolding or_else bad_record before_reset misplaced fits lun_works past_end
   out-accepted h idle more = out-verdict (standing g luns selected Idle o) 0 ∙ rw (h, idle, more)
 
@@ -247,7 +245,7 @@ module _ (g : Geometry) (luns : List Lun) (calm : Calm luns) (selected : ℕ) (s
   unfolding target_after high_after clear_after selected_after luns_after sequence_after output_after kept_after
   out-leaves found = refl
 
-  pub in-accepted : (v : ℕ) → takes_data s ≡ true → unoffered every (taking s) v ≡ false → data_ended g (taking s) ≡ false → rules.verdict (standing g luns selected s o) (event 2 v) ≡ Accepted
+  pub in-accepted : (v : ℕ) → takes_data s ≡ true → unoffered every (taking s) v ≡ false → data_ended g (taking s) ≡ false → rules.verdict (standing g luns selected s o) (event 2 v) ≡ (Ok tt)
   unfolding or_else before_reset misplaced fits not_offered past_end
   in-accepted v h offer more = in-verdict (standing g luns selected s o) v ∙ rw (h, offer, more)
 

@@ -1,5 +1,6 @@
 -- Of each geometry within the limits there is a part: its parameter page and its buffers are ones that power-on accepts.
 -- Assumes nothing.
+use Rattle.std.specs.Prelude.{Ok}
 use mathlib.Core.Path.{◌≡◌, refl, sym, ap, ◌∙◌}
 use mathlib.Core.Bool.{Bool, true, ◌&&◌, ◌||◌, not}
 use mathlib.Core.List.{List, [], ◌∷◌, ◌++◌}
@@ -20,7 +21,6 @@ use Rattle.target.specs.declared.Geometry.{Geometry}
 use Rattle.target.specs.declared.Words.{Words}
 use Rattle.target.proofs.Limits.{Limits, limits}
 use Rattle.power.specs.Power.{geometry_of, words_of, wrong_length, unsigned, crc_bad, field_bad, buffer_bad, content_bad, power_answer}
-use Rattle.power.specs.declared.PowerAnswer.TheVariants.{Accepted}
 use Rattle.power.proofs.Answers.{later}
 use Rattle.step.specs.Usable.{words_sound}
 use Rattle.target.proofs.Both.{both}
@@ -254,7 +254,7 @@ module _ (k : Part) (f : Fine k) where
   flags-fine = both_most 1 (replicate k.bad 1) _ (all_most 1 k.bad 1 (omega arith)) (all_most 1 (blocks_in k - k.bad) 0 (omega arith))
 
   -- power-on accepts it
-  pub powers-on : power_answer (page_of k) (length (array_of k)) (length (registers_of k)) (counts_of k) (flags_of k) ≡ Accepted
+  pub powers-on : power_answer (page_of k) (length (array_of k)) (length (registers_of k)) (counts_of k) (flags_of k) ≡ Ok tt
   unfolding power_answer wrong_length unsigned crc_bad field_bad buffer_bad content_bad
   powers-on =
       sym (later _ _ _ (rw (length-is k))

@@ -34,8 +34,6 @@ use Rattle.target.specs.declared.Sequence.{Sequence}
 use Rattle.target.specs.declared.Sequence.TheVariants.{Idle, Columns, Rows, Single, Due, Filling, Moving, Setting}
 use Rattle.target.specs.declared.Output.{Output}
 use Rattle.target.specs.declared.Output.TheVariants as output
-use Rattle.target.specs.declared.Verdict.TheVariants.{Accepted}
-use Rattle.target.specs.declared.commands.FirstFound.TheVariants as first
 use Rattle.target.specs.declared.commands.Looks.{Looks}
 use Rattle.target.specs.declared.commands.Looks.TheVariants as looks
 use Rattle.target.specs.declared.views.Given.{Given}
@@ -63,6 +61,7 @@ use Rattle.thm_tight.proofs.Ways.{Way, onward, to_end, reached}
 use Rattle.thm_tight.proofs.Commands.{every, addresses, no_output, waits-some, waits-plain, waits-then, data-shape, data-then, data-silent, needs-only, page-only}
 use Rattle.thm_tight.proofs.Cycles.{Calm, Unasked, copying, moving, second, full, keeping, standing, ready_luns, stand, resting, and_no, works-not, still, command, address, data-in}
 use Rattle.thm_tight.proofs.Addresses.{column-bytes, row-bytes, row_small}
+use Rattle.std.specs.Prelude.{Ok, Option, Some}
 
 -- The sequences on the way, each written out once.
 
@@ -171,7 +170,7 @@ unfolding target_after high_after clear_after selected_after luns_after sequence
 copying-left g bad l r counts flags = refl
 
 -- its finish event
-finish-accepted : (g : Geometry) (l : ℕ) (luns : List Lun) (o : Output) → l < g.luns → works luns l ≡ true → rules.verdict (standing g luns l Idle o) (event 4 l) ≡ Accepted
+finish-accepted : (g : Geometry) (l : ℕ) (luns : List Lun) (o : Output) → l < g.luns → works luns l ≡ true → rules.verdict (standing g luns l Idle o) (event 4 l) ≡ (Ok tt)
 unfolding or_else not_working
 finish-accepted g l luns o h k = finish-verdict (standing g luns l Idle o) l ∙ rw (lt-ltb l g.luns h, k)
 
@@ -212,7 +211,7 @@ copied-calm g bad (suc (suc (suc (suc l)))) h = absurd (omega arith)
 -- Where the cycles of a first command start.
 
 -- where no parameter page is open a byte is the command that the list names first
-plain_here : (o : Output) (f : First) → is_page o ≡ false → in_page f ≡ false → first_here (resting o) (byte_of f) ≡ first.Found f
+plain_here : (o : Output) (f : First) → is_page o ≡ false → in_page f ≡ false → first_here (resting o) (byte_of f) ≡ Some f
 plain_here o f none h = rw (none, and_no (eqb (byte_of f) 0x05)) (named f h)
 
 plain-silent : (selected : ℕ) (f : First) → in_page f ≡ false → addresses f ≡ true → first_output selected (first_of (byte_of f)) ≡ output.Nothing
@@ -225,13 +224,13 @@ Empty o = o ≡ output.Nothing
 plain-lost : (o : Output) (f : First) → (gives_status f ≡ true → Empty o) → in_page f ≡ false → Empty (first_kept (resting o) (first_of (byte_of f)))
 plain-lost o f none h = ap (first_kept (resting o)) (named f h) ∙ lost
   where
-    lost : Empty (first_kept (resting o) (first.Found f))
+    lost : Empty (first_kept (resting o) (Some f))
     lost =
         by-pick Empty (gives_status f) _ _ (λ is. by-pick Empty (shows_status o) _ _ (λ _. refl) (λ _. none is))
         (λ _. by-pick Empty (eqb (byte_of f) 0x00 && shows_status o) _ _ (λ _. refl) (λ _. refl))
 
 -- 05h with the page open
-page-here : first_here (resting (output.Parameters 0)) (byte_of ChangeColumnInPage) ≡ first.Found ChangeColumnInPage
+page-here : first_here (resting (output.Parameters 0)) (byte_of ChangeColumnInPage) ≡ Some ChangeColumnInPage
 unfolding row_of first_of
 page-here = refl
 
@@ -247,8 +246,8 @@ page-lost = refl
 abbrev before : Bool → Output
 before page = pick page (output.Parameters 0) output.Nothing
 
-pub before_here : (f : First) (b : Bool) → in_page f ≡ b → first_here (resting (before b)) (byte_of f) ≡ first.Found f
-before_here f true h = subst (λ (x : First). first_here (resting (output.Parameters 0)) (byte_of x) ≡ first.Found x) (sym (page-only f h)) page-here
+pub before_here : (f : First) (b : Bool) → in_page f ≡ b → first_here (resting (before b)) (byte_of f) ≡ Some f
+before_here f true h = subst (λ (x : First). first_here (resting (output.Parameters 0)) (byte_of x) ≡ Some x) (sym (page-only f h)) page-here
 before_here f false h = plain_here output.Nothing f refl h
 
 pub before-silent : (f : First) (b : Bool) → in_page f ≡ b → addresses f ≡ true → first_output 0 (first_of (byte_of f)) ≡ output.Nothing
@@ -266,13 +265,13 @@ pub record Base (g : Geometry) (bad : ℕ) (f : First) : Type 0 where
   pub selected : ℕ
   pub shows : Output
   pub way : Way (full g bad) (standing g luns selected Idle shows)
-  pub here : first_here (resting shows) (byte_of f) ≡ first.Found f
+  pub here : first_here (resting shows) (byte_of f) ≡ Some f
   pub silent : addresses f ≡ true → first_output selected (first_of (byte_of f)) ≡ output.Nothing
   pub lost : first_kept (resting shows) (first_of (byte_of f)) ≡ output.Nothing
 
 -- the row that an address completes
-abbrev rowed : First → Row → Given
-rowed f r = given.Row (record { first = f; row = r })
+abbrev rowed : First → Row → Option Given
+rowed f r = Some (given.Row (record { first = f; row = r }))
 
 -- with every LUN as FFh leaves it no row closes a copyback
 closed-ready : (g : Geometry) (bad l : ℕ) → set (ready_luns g bad) l (lun_closed (lun_at (ready_luns g bad) l)) ≡ ready_luns g bad
@@ -319,7 +318,7 @@ module _ (g : Geometry) (bad : ℕ) (fine : Fine (full g bad)) (f : First) (base
       (subst (λ (x : Sequence). Way (full g bad) (keeping g base.luns from x (first_output from (first_of (byte_of f))) (first_kept (resting base.shows) (first_of (byte_of f))))) (ap opened base.here ∙ e)
       (command g bad fine base.luns base.calm from base.shows base.way f)))
 
-  abbrev unasked : {k : Given} → lacks_copyback g base.luns k ≡ false → addressed_luns g base.luns k ≡ base.luns → Unasked g base.luns k
+  abbrev unasked : {k : Option Given} → lacks_copyback g base.luns k ≡ false → addressed_luns g base.luns k ≡ base.luns → Unasked g base.luns k
   unasked p q = record { lacks = p; closes = q }
 
   -- The column's cycles.

@@ -15,7 +15,6 @@ use Rattle.target.specs.declared.Findings.{Findings}
 use Rattle.target.specs.declared.Target.{Target}
 use Rattle.target.specs.declared.Sequence.TheVariants.{Setting}
 use Rattle.target.specs.declared.Output.TheVariants as output
-use Rattle.target.specs.declared.Verdict.TheVariants.{Accepted}
 use Rattle.rules.specs.Rules.{line_held, verdict}
 use Rattle.rules.proofs.ByKind.{event, protect-verdict}
 use Rattle.lun_records.specs.LunsAfter.{luns_after}
@@ -32,6 +31,7 @@ use Rattle.thm_tight.proofs.Cycles.{full, ready_luns, stand, works-not, still, i
 use Rattle.thm_tight.proofs.Sequences.{setting, setting-three, sequence-given}
 use Rattle.thm_tight.proofs.Outputs.{status, output-given, kept-given}
 use Rattle.thm_tight.proofs.Marks.{working-given, fail-given, copyback-given, blank-given}
+use Rattle.std.specs.Prelude.{Ok}
 
 -- a part of the geometry, with these words and IDs
 abbrev made : Geometry → Words → ℕ → ℕ → Part
@@ -66,7 +66,7 @@ full-fine g h bad k = record {
 
 -- The protect line, program-clear, the first FFh.
 
-lowers : (k : Part) → verdict (fresh k) (event 5 0) ≡ Accepted
+lowers : (k : Part) → verdict (fresh k) (event 5 0) ≡ (Ok tt)
 unfolding or_else bad_record line_held
 lowers k = protect-verdict (fresh k) 0
 

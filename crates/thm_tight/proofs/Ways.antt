@@ -17,7 +17,6 @@ use Rattle.target.specs.declared.Event.{Event}
 use Rattle.target.specs.declared.Target.{Target}
 use Rattle.target.specs.declared.Sequence.TheVariants.{Idle}
 use Rattle.target.specs.declared.Output.TheVariants as output
-use Rattle.target.specs.declared.Verdict.TheVariants.{Accepted}
 use Rattle.target.proofs.Both.{both}
 use Rattle.power.specs.Power.{luns_found, powered_of}
 use Rattle.rules.specs.Rules.{verdict}
@@ -30,6 +29,7 @@ use Rattle.thm_demands.specs.Runs.{step_at, left, after, powered_up}
 use Rattle.thm_demands.proofs.Promised.{powered-fit, run-fit}
 use Rattle.thm_tight.specs.Tight.{byte_events, Reached}
 use Rattle.thm_tight.proofs.Part.{Part, Fine, page_of, array_of, registers_of, counts_of, flags_of, geometry-is, words-is, maker-is, powers-on, page-bytes, array-bytes, registers-bytes}
+use Rattle.std.specs.Prelude.{Ok}
 
 abbrev powered : Part → State
 powered k = powered_up (page_of k) k.device (array_of k) (registers_of k) (counts_of k) (flags_of k)
@@ -95,11 +95,11 @@ unfolding after
 snoc page flags [] e s = refl
 snoc page flags (d ∷ es) e s = snoc page flags es e (left (step_at page flags s d))
 
-steady-accepted : (t : Target) (e : Event) (page : List ℕ) (b : Buffers) (flags : List ℕ) → verdict t e ≡ Accepted → (steady t e page b flags).target ≡ target_after t e (findings t.geometry t.words t.decoder.sequence e b.counts flags)
+steady-accepted : (t : Target) (e : Event) (page : List ℕ) (b : Buffers) (flags : List ℕ) → verdict t e ≡ (Ok tt) → (steady t e page b flags).target ≡ target_after t e (findings t.geometry t.words t.decoder.sequence e b.counts flags)
 unfolding steady by_verdict accepted accepted_by
 steady-accepted t e page b flags h = rw (h)
 
-module _ {k : Part} (f : Fine k) {x : Target} (w : Way k x) (e : Event) (kind : e.kind ≤ 255) (value : e.value ≤ 255) (ok : verdict x e ≡ Accepted) where
+module _ {k : Part} (f : Fine k) {x : Target} (w : Way k x) (e : Event) (kind : e.kind ≤ 255) (value : e.value ≤ 255) (ok : verdict x e ≡ (Ok tt)) where
   steps : (step_at (page_of k) (flags_of k) (standing k w.events) e).target ≡ target_after x e (findings x.geometry x.words x.decoder.sequence e (standing k w.events).buffers.counts (flags_of k))
   steps =
       let s = standing k w.events in

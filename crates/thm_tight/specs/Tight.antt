@@ -2,7 +2,7 @@
 -- "or a number in the record, taken by itself, is one that no run with that geometry gives it". Proved in proofs/.
 --     Tight       each number of a record that it lets pass is given by a run
 --     ByItself    and a record each of whose numbers is given by some run passes, however they stand together
-use Rattle.std.specs.Prelude.{◌≡◌, Bool, true, ◌&&◌, List, [], ◌∷◌, ℕ, ◌<◌, ◌≤◌, length, leb}
+use Rattle.std.specs.Prelude.{◌≡◌, Bool, true, ◌&&◌, List, [], ◌∷◌, ℕ, ◌<◌, ◌≤◌, length, leb, Ok}
 use Rattle.slices.specs.Cells.{all_at_most}
 use Rattle.target.specs.Luns.{works, failed, copyback_at, blank_at}
 use Rattle.target.specs.declared.Event.{Event}
@@ -16,7 +16,6 @@ use Rattle.target.specs.declared.Sequence.TheVariants.{Idle, Columns, Rows, Sing
 use Rattle.target.specs.declared.Output.{Output}
 use Rattle.target.specs.declared.Output.TheVariants as output
 use Rattle.power.specs.Power.{geometry_of, power_answer}
-use Rattle.power.specs.declared.PowerAnswer.TheVariants.{Accepted}
 use Rattle.step.specs.Usable.{record_sound}
 use Rattle.thm_demands.specs.Runs.{after, powered_up}
 
@@ -40,7 +39,7 @@ pub record Reached (g : Geometry) (P : Target → Type 0) : Type 0 where
   pub array-bytes : all_at_most 255 array ≡ true
   pub registers-bytes : all_at_most 255 registers ≡ true
   pub events-bytes : byte_events events ≡ true
-  pub on : power_answer page (length array) (length registers) counts flags ≡ Accepted
+  pub on : power_answer page (length array) (length registers) counts flags ≡ Ok tt
   pub sizes : geometry_of page ≡ g
   pub holds : P (after page flags events (powered_up page device array registers counts flags)).target
 

@@ -3,15 +3,15 @@
 --     in-run, out-run       the rest of the trace after k of them gives what it gave before them
 -- Assumes nothing.
 use mathlib.Core.Path.{◌≡◌, refl, sym, ap, subst, ◌∙◌}
-use mathlib.Core.Bool.{Bool, true, false, ◌&&◌, ◌||◌}
+use mathlib.Core.Bool.{Bool, true, false, ◌||◌}
 use mathlib.Core.List.{List}
 use Prim.Native.Nat.{ℕ, zero, suc, ◌+◌, ◌*◌, ◌≤◌, ◌<◌, min}
 use native.Mathlib.Nat.{min-le_left, min-le_right}
 use native.Mathlib.Omega.{arith}
 use native.Mathlib.Numerals.{add-one}
 use lib.ListN.{length, get_or, set, drop}
-use lib.Dec.{eqb, ltb}
-use borrow.Author.Tests.{ltb-true, lt-leb, eqb-true, eqb-false}
+use lib.Dec.{eqb}
+use borrow.Author.Tests.{lt-leb, eqb-true}
 use Rattle.slices.specs.Cells.{part, splice}
 use Rattle.slices.proofs.Splice.{piece}
 use Rattle.target.proofs.Both.{both}
@@ -28,29 +28,29 @@ use Rattle.target.specs.declared.Target.{Target}
 use Rattle.target.specs.declared.Sequence.TheVariants.{Filling}
 use Rattle.target.specs.declared.Output.TheVariants as output
 use Rattle.target.specs.declared.Reply.TheVariants as reply
-use Rattle.target.specs.declared.Verdict.TheVariants.{Accepted}
 use Rattle.target.specs.declared.Work.TheVariants as work
 use Rattle.rules.specs.Rules.{before_reset, misplaced, fits, not_offered, lun_works, past_end, verdict}
 use Rattle.rules.proofs.ByKind.{event, in-verdict, out-verdict}
 use Rattle.effects.specs.Effects.{high_after, clear_after, selected_after, sequence_after, output_after, target_after, work_of}
 use Rattle.lun_records.specs.LunsAfter.{luns_after}
 use Rattle.memory.specs.Memory.{kept_after}
-use Rattle.step.specs.Usable.{usable, sequence_sound, output_sound}
+use Rattle.step.specs.Usable.{record_sound, usable, sequence_sound, output_sound}
 use Rattle.step.specs.Buffers.{registers_after, array_after, counts_after, output_byte}
 use Rattle.step.specs.Step.{Buffers, Outcome, reply_of, worked, accepted_by, accepted, by_verdict, steady, step_of}
-use Rattle.step.proofs.Sound.{sound, filling-place, filling-row, register-place, passes}
+use Rattle.step.proofs.Sound.{sound, filling-place, filling-row, register-place}
 use Rattle.blocks.proofs.Places.{row-lun}
 use Rattle.thm_kept.proofs.Kept.{step-steady}
 use Rattle.trace.specs.Run.{Running, written, one_more, ran_all, events_of, stands_usable}
 use Rattle.trace.specs.Data.{is_data, AllData, decoding, filling_at, register_at, filling, giving, Taking, took_one, taken_in, given_out, standing, Carried}
 use Rattle.trace.proofs.Turns.{event_at, turned, stands-kept}
+use Rattle.std.specs.Prelude.{Ok}
 
 -- the verdict on a data-in cycle of a program that has room
-in-passes : (t : Target) (f : Fill) (at v : ℕ) → t.seen ≡ true → at < page_size t.geometry → verdict (filling t f at) (event 2 v) ≡ Accepted
+in-passes : (t : Target) (f : Fill) (at v : ℕ) → t.seen ≡ true → at < page_size t.geometry → verdict (filling t f at) (event 2 v) ≡ (Ok tt)
 unfolding or_else before_reset misplaced fits not_offered past_end
 in-passes t f at v seen room = in-verdict (filling t f at) v ∙ rw (seen, lt-leb (page_size t.geometry) at room)
 
-out-passes : (t : Target) (l c : ℕ) → t.seen ≡ true → works t.luns l ≡ false → is_bare t.decoder.sequence ≡ false → c < page_size t.geometry → verdict (giving t l c) (event 3 0) ≡ Accepted
+out-passes : (t : Target) (l c : ℕ) → t.seen ≡ true → works t.luns l ≡ false → is_bare t.decoder.sequence ≡ false → c < page_size t.geometry → verdict (giving t l c) (event 3 0) ≡ (Ok tt)
 unfolding or_else bad_record before_reset misplaced fits lun_works past_end
 out-passes t l c seen idle plain room = out-verdict (giving t l c) 0 ∙ rw (seen, plain, idle, lt-leb (page_size t.geometry) c room)
 
@@ -92,25 +92,7 @@ out-event records j h =
 fewer : {out : Bool} {records : List ℕ} {i k : ℕ} → AllData out records i (suc k) → AllData out records i k
 fewer {out} {records} {i} {k} a = record { each = λ j h. a.each j (omega arith) }
 
--- for the loops: a test that holds, none and one more of the data records, and one more turn
-pub both-on : (k most : ℕ) (b : Bool) → (ltb k most && b) ≡ true → (k < most) × (b ≡ true)
-both-on k most b h =
-    let p = both (ltb k most) b h in
-    (ltb-true k most p.0, p.1)
-
-pub none : (out : Bool) (records : List ℕ) (i : ℕ) → AllData out records i 0
-none out records i = record { each = λ j h. absurd (omega (arith, h)) }
-
-pub one_more_lem : {out : Bool} {records : List ℕ} {i k : ℕ} → AllData out records i k → is_data out records (i + k) ≡ true → AllData out records i (k + 1)
-one_more_lem {out} {records} {i} {k} a h = record { each = λ j below. by j below (eqb j k) refl }
-  where
-    by : (j : ℕ) → j < k + 1 → (b : Bool) → eqb j k ≡ b → is_data out records (i + j) ≡ true
-    by j below true e = ap (λ (n : ℕ). is_data out records (i + n)) (eqb-true j k e) ∙ h
-    by j below false e = let other = eqb-false j k e in a.each j (smaller j below other)
-      where
-        smaller : (j : ℕ) → j < k + 1 → (j ≡ k → ⊥) → j < k
-        smaller j below other = omega arith
-
+-- for the loops: one more turn
 pub gave_one : (registers : List ℕ) (i from j : ℕ) (room₀ room next : List ℕ) → next ≡ written room (i + j) (reply.Byte (get_or registers (from + j) 0)) → room ≡ given_out registers i from j room₀ → next ≡ given_out registers i from (j + 1) room₀
 unfolding given_out
 gave_one registers i from j room₀ room next e before =
@@ -193,20 +175,18 @@ pub within_both : (a b : ℕ) {m k : ℕ} → m ≡ min a b → k ≤ m → (k �
 within_both a b {m} {k} e h = (omega (arith, min-le_left a b), omega (arith, min-le_right a b))
 
 -- what rule 13 says of a program's place, and of a register that is put out
-module _ (t : Target) (params array registers counts flags : List ℕ) (fit : usable t (length params) (length array) (length registers) (length counts) (length flags) ≡ true) where
+module _ (t : Target) (ok : record_sound t ≡ true) (registers : List ℕ) (size : length registers ≡ t.geometry.luns * page_size t.geometry) where
   pub fill-room : (f : Fill) → t.decoder.sequence ≡ Filling f → (f.at.0 ≤ page_size t.geometry) × (lun_of t.geometry f.row * page_size t.geometry + page_size t.geometry ≤ length registers) × (length registers ≤ 73728)
   fill-room f e =
-      let p = passes t params array registers counts flags fit in
-      let k : sequence_sound t.geometry (Filling f) ≡ true = subst (λ s. sequence_sound t.geometry s ≡ true) e (sound t p.record-sound).sequence in
-      let few = registers-all (limits t.geometry (sound t p.record-sound).limited) in
-      (filling-place t.geometry f k, omega (arith, piece (page_size t.geometry) (row-lun t.geometry f.row (filling-row t.geometry f k)), p.sizes.registers-size), omega (arith, few, p.sizes.registers-size))
+      let k : sequence_sound t.geometry (Filling f) ≡ true = subst (λ s. sequence_sound t.geometry s ≡ true) e (sound t ok).sequence in
+      let few = registers-all (limits t.geometry (sound t ok).limited) in
+      (filling-place t.geometry f k, omega (arith, piece (page_size t.geometry) (row-lun t.geometry f.row (filling-row t.geometry f k)), size), omega (arith, few, size))
 
   pub give-room : (l : ℕ) (c : Column) → t.decoder.output ≡ output.Register l c → (c.0 ≤ page_size t.geometry) × (l * page_size t.geometry + page_size t.geometry ≤ length registers) × (length registers ≤ 73728)
   give-room l c e =
-      let p = passes t params array registers counts flags fit in
-      let k = register-place t.geometry l c (subst (λ o. output_sound t.geometry o ≡ true) e (sound t p.record-sound).output) in
-      let few = registers-all (limits t.geometry (sound t p.record-sound).limited) in
-      (k.1, omega (arith, piece (page_size t.geometry) k.0, p.sizes.registers-size), omega (arith, few, p.sizes.registers-size))
+      let k = register-place t.geometry l c (subst (λ o. output_sound t.geometry o ≡ true) e (sound t ok).output) in
+      let few = registers-all (limits t.geometry (sound t ok).limited) in
+      (k.1, omega (arith, piece (page_size t.geometry) k.0, size), omega (arith, few, size))
 
 -- a burst carries the trace on
 module _ (params flags records array registers counts room : List ℕ) (t : Target) (i : ℕ) (there : 2 * i ≤ length records) where

@@ -17,7 +17,7 @@ use Rattle.step.specs.Step.{Buffers, step_of}
 use Rattle.thm_kept.proofs.Kept.{step-usable}
 use Rattle.target.specs.declared.Reply.TheVariants.{Refused}
 use Rattle.target.specs.declared.Refusal.TheVariants.{BadRecord, NotUsable}
-use Rattle.trace.specs.declared.RunAnswer.TheVariants.{Done}
+use Rattle.std.specs.Prelude.{Ok}
 use Rattle.trace.specs.Run.{Running, written, one_more, ran_all, events_of, stands_usable, odd_answered, Traced, traced}
 
 -- the event of the two bytes at a place
@@ -80,13 +80,13 @@ module _ (params flags : List ℕ) where
 
   -- the odd last byte's reply
   pub odd-room : (n : ℕ) (s : Running) (ok : Bool) → s.done ≡ n / 2 → ok ≡ stands_usable params flags s
-      → ◌≡◌ {A = Traced} (record { answer = Done; target = s.target; buffers = s.buffers; room = pick (eqb (n % 2) 1) (written s.room (n / 2) (Refused (pick ok BadRecord NotUsable))) s.room })
-      (traced Done (odd_answered params flags n s))
+      → ◌≡◌ {A = Traced} (record { answer = Ok tt; target = s.target; buffers = s.buffers; room = pick (eqb (n % 2) 1) (written s.room (n / 2) (Refused (pick ok BadRecord NotUsable))) s.room })
+      (traced (Ok tt) (odd_answered params flags n s))
   unfolding odd_answered
   odd-room n s ok at told = rw (told, ← at) (by (eqb (n % 2) 1))
     where
-      by : (b : Bool) → ◌≡◌ {A = Traced} (record { answer = Done; target = s.target; buffers = s.buffers; room = pick b (written s.room s.done (Refused (pick (stands_usable params flags s) BadRecord NotUsable))) s.room })
-          (traced Done (pick b (record { target = s.target; done = s.done + 1; buffers = s.buffers; room = written s.room s.done (Refused (pick (stands_usable params flags s) BadRecord NotUsable)) }) s))
+      by : (b : Bool) → ◌≡◌ {A = Traced} (record { answer = Ok tt; target = s.target; buffers = s.buffers; room = pick b (written s.room s.done (Refused (pick (stands_usable params flags s) BadRecord NotUsable))) s.room })
+          (traced (Ok tt) (pick b (record { target = s.target; done = s.done + 1; buffers = s.buffers; room = written s.room s.done (Refused (pick (stands_usable params flags s) BadRecord NotUsable)) }) s))
       by true = refl
       by false = refl
 

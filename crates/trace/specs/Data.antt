@@ -9,6 +9,7 @@ use Rattle.target.specs.declared.Sequence.TheVariants.{Filling}
 use Rattle.target.specs.declared.Output.{Output}
 use Rattle.target.specs.declared.Output.TheVariants as output
 use Rattle.target.specs.declared.Reply.TheVariants.{Accepted, Byte}
+use Rattle.step.specs.Usable.{usable}
 use Rattle.trace.specs.Run.{Running, written, ran_all, events_of, stands_usable}
 
 -- record j is a data-in cycle, or a data-out cycle
@@ -78,3 +79,9 @@ pub record Carried (params flags records array counts : List ℕ) (t : Target) (
   pub within : 2 * n ≤ length records
   pub fit : stands_usable params flags (standing next n array put counts told) ≡ stands_usable params flags (standing t i array registers counts room)
   pub rest : ran_all params flags (drop n (events_of records)) (standing next n array put counts told) ≡ ran_all params flags (drop i (events_of records)) (standing t i array registers counts room)
+
+-- whatever the other buffers hold, where 13 does not hold
+abbrev pub CarriesOn : List ℕ → Target → ℕ → List ℕ → List ℕ → Target → ℕ → List ℕ → List ℕ → Type 0
+CarriesOn records t i registers room next n put told =
+    (params flags array counts : List ℕ) → usable t (length params) (length array) (length registers) (length counts) (length flags) ≡ true
+    → Carried params flags records array counts t i registers room next n put told

@@ -1,5 +1,5 @@
 -- Runs of events (document 01, "Events and replies as records"): one event after the other, each with its two-byte reply.
-use Rattle.std.specs.Prelude.{Bool, List, [], ◌∷◌, ℕ, ◌+◌, ◌*◌, ◌%◌, length, set, eqb, ltb}
+use Rattle.std.specs.Prelude.{Result, Ok, Err, Bool, List, [], ◌∷◌, ℕ, ◌+◌, ◌*◌, ◌%◌, length, set, eqb, ltb}
 use Rattle.target.specs.Pick.{pick}
 use Rattle.target.specs.Numbers.{reply_first, reply_second}
 use Rattle.target.specs.declared.Event.{Event}
@@ -9,13 +9,13 @@ use Rattle.target.specs.declared.Reply.TheVariants.{Refused}
 use Rattle.target.specs.declared.Refusal.TheVariants.{BadRecord, NotUsable}
 use Rattle.step.specs.Usable.{usable}
 use Rattle.step.specs.Step.{Buffers, Outcome, step_of}
-use Rattle.trace.specs.declared.RunAnswer.{RunAnswer}
-use Rattle.trace.specs.declared.RunAnswer.TheVariants.{Done, NoRoom}
+use Rattle.trace.specs.declared.RunRefusal.{RunRefusal}
+use Rattle.trace.specs.declared.RunRefusal.TheVariants.{NoRoom}
 
 -- document 01's number of a run's answer: 0 where it was run, 16 where the reply room is too short
-abbrev pub run_number : RunAnswer → ℕ
-run_number Done = 0
-run_number NoRoom = 16
+abbrev pub run_number : {A : Type 0} → Result A RunRefusal → ℕ
+run_number (Ok _) = 0
+run_number (Err NoRoom) = 16
 
 -- where a run stands: the record, how many records have their reply, what the lent buffers hold, and the reply room
 pub record Running : Type 0 where
@@ -68,25 +68,30 @@ unfoldable pub needed : ℕ → ℕ
 needed n = n + n % 2
 
 pub record Traced : Type 0 where
-  pub answer : RunAnswer
+  pub answer : Result Unit RunRefusal
   pub target : Target
   pub buffers : Buffers
   pub room : List ℕ
 
-abbrev pub traced : RunAnswer → Running → Traced
+abbrev pub traced : Result Unit RunRefusal → Running → Traced
 traced a s = record { answer = a; target = s.target; buffers = s.buffers; room = s.room }
 
 abbrev pub start : Target → Buffers → List ℕ → Running
 start t b room = record { target = t; done = 0; buffers = b; room = room }
 
+-- what a caller holds after a run: the target that it gave, and where it was refused the one that was there before
+abbrev pub came_to : Target → Result Target RunRefusal → Buffers → List ℕ → Traced
+came_to t (Ok next) b room = record { answer = Ok tt; target = next; buffers = b; room = room }
+came_to t (Err why) b room = record { answer = Err why; target = t; buffers = b; room = room }
+
 -- a byte trace: 16 is looked at before any record and changes nothing; room past the replies stays as it is
 unfoldable pub trace_of : Target → List ℕ → List ℕ → List ℕ → Buffers → List ℕ → Traced
 trace_of t records room params b flags =
-    pick (ltb (length room) (needed (length records))) (traced NoRoom (start t b room))
-    (traced Done (odd_answered params flags (length records) (ran_all params flags (events_of records) (start t b room))))
+    pick (ltb (length room) (needed (length records))) (traced (Err NoRoom) (start t b room))
+    (traced (Ok tt) (odd_answered params flags (length records) (ran_all params flags (events_of records) (start t b room))))
 
 -- a batch of events held as records in memory
 unfoldable pub batch_of : Target → List Event → List ℕ → List ℕ → Buffers → List ℕ → Traced
 batch_of t events room params b flags =
-    pick (ltb (length room) (2 * length events)) (traced NoRoom (start t b room))
-    (traced Done (ran_all params flags events (start t b room)))
+    pick (ltb (length room) (2 * length events)) (traced (Err NoRoom) (start t b room))
+    (traced (Ok tt) (ran_all params flags events (start t b room)))

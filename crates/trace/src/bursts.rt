@@ -1,12 +1,13 @@
 // Many data cycles in a row: while a program takes data or a page register is put out, the bytes and the replies are moved in one
 // tight loop, and the record is brought up to date once at its end. `trace::run` promises the same as without.
-ghost use Rattle.std.specs.Prelude.{◌≡◌, true, false, ◌&&◌, ◌||◌, ◌+◌, ◌*◌, ◌≤◌, ◌<◌, min, length, get_or, eqb, ltb};
+ghost use Rattle.std.specs.Prelude.{◌≡◌, true, false, ◌&&◌, ◌||◌, ◌+◌, ◌*◌, ◌≤◌, ◌<◌, length, get_or, eqb, ltb};
 ghost use Rattle.target.specs.Luns.{works};
 ghost use Rattle.target.specs.Place.{is_bare};
 ghost use Rattle.target.specs.declared.Sequence.TheVariants as sequence;
 ghost use Rattle.target.specs.declared.Output.TheVariants as output;
-ghost use Rattle.step.specs.Usable.{usable};
-ghost use Rattle.trace.specs.Data.{is_data, AllData, filling, giving, Taking, taken_in, given_out, Carried};
+ghost use Rattle.target.specs.Sizes.{page_size};
+ghost use Rattle.step.specs.Usable.{record_sound};
+ghost use Rattle.trace.specs.Data.{is_data, AllData, filling, giving, Taking, taken_in, given_out, CarriesOn};
 
 use crate::put_reply;
 use slices::{byte_at, put_part};
@@ -22,20 +23,9 @@ fn is_data(out: bool, records: &[u8], j: usize) -> bool
     ensures { result ≡ is_data out records.now j }
 {
     if out {
-        (records[2 * j] == 3) & (records[2 * j + 1] == 0)
+        records[2 * j] == 3 && records[2 * j + 1] == 0
     } else {
         records[2 * j] == 2
-    }
-}
-
-fn goes_on(out: bool, records: &[u8], i: usize, k: usize, most: usize) -> bool
-    requires { 2 * (i + most) ≤ length records.now }
-    ensures { result ≡ (ltb k most && is_data out records.now (i + k)) }
-{
-    if k < most {
-        is_data(out, records, i + k)
-    } else {
-        false
     }
 }
 
@@ -45,11 +35,12 @@ fn data_run(out: bool, records: &[u8], i: usize, most: usize) -> usize
     ensures upper_bound { result ≤ most }
     ensures all_data { AllData out records.now i result }
 {
-    let mut k: usize = 0;
-    while goes_on(out, records, i, k, most) {
-        k += 1;
+    for k in 0..most {
+        if !is_data(out, records, i + k) {
+            return k;
+        }
     }
-    k
+    most
 }
 
 // The bytes of `k` data-in cycles into the register that starts at `base`, and their replies.
@@ -69,11 +60,9 @@ fn take_in(
         (record { registers = registers.new; room = room.new })
         (taken_in page base records.now i at k (record { registers = registers.old; room = room.old })) }
 {
-    let mut j: usize = 0;
-    while j < k {
+    for j in 0..k {
         put_part(registers, base, page, at + j, records[2 * (i + j) + 1]);
         put_reply(room, i + j, Reply::Accepted);
-        j += 1;
     }
 }
 
@@ -82,38 +71,37 @@ fn give_out(registers: &[u8], i: usize, from: usize, k: usize, room: &mut [u8])
     requires { (from + k ≤ length registers.now) × (2 * (i + k) ≤ length room.old) }
     ensures { room.new ≡ given_out registers.now i from k room.old }
 {
-    let mut j: usize = 0;
-    while j < k {
+    for j in 0..k {
         put_reply(room, i + j, Reply::Byte(registers[from + j]));
-        j += 1;
     }
 }
 
 fn with_place(t: Target, fill: Fill, at: usize) -> Target
     ensures { result ≡ filling t fill at }
 {
-    let d = t.decoder;
-    let column = Column(at);
-    let next = Fill { at: column, ..fill };
-    let sequence = Sequence::Filling(next);
-    let decoder = Decoder { sequence, ..d };
+    let sequence = Sequence::Filling(Fill {
+        at: Column(at),
+        ..fill
+    });
+    let decoder = Decoder {
+        sequence,
+        ..t.decoder
+    };
     Target { decoder, ..t }
 }
 
 fn with_output(t: Target, lun: usize, at: usize) -> Target
     ensures { result ≡ giving t lun at }
 {
-    let d = t.decoder;
-    let column = Column(at);
-    let output = Output::Register { lun, column };
-    let decoder = Decoder { output, ..d };
+    let output = Output::Register {
+        lun,
+        column: Column(at),
+    };
+    let decoder = Decoder {
+        output,
+        ..t.decoder
+    };
     Target { decoder, ..t }
-}
-
-fn lesser(a: usize, b: usize) -> usize
-    ensures { result ≡ min a b }
-{
-    if b < a { b } else { a }
 }
 
 // How many records were run, and the record of the target after them.
@@ -123,35 +111,28 @@ pub struct Carry {
     pub count: usize,
 }
 
-// Data into a program.
+// Data into a program. Not one function with `give_burst`: this writes the registers from the records, and that only reads them.
 fn fill_burst(
     t: Target,
     fill: Fill,
     i: usize,
     records: &[u8],
     room: &mut [u8],
-    params: &[u8],
-    array: &[u8],
     registers: &mut [u8],
-    counts: &[u8],
-    flags: &[u8],
 ) -> Carry
-    requires flags_value { usable t (length params.now) (length array.now) (length registers.old) (length counts.now) (length flags.now) ≡ true }
+    requires sound { (record_sound t ≡ true) × (length registers.old ≡ t.geometry.luns * page_size t.geometry) }
     requires seen_value { (t.seen ≡ true) × (t.decoder.sequence ≡ sequence.Filling fill) }
     requires i_in_bounds { (2 * i ≤ length records.now) × (length records.now ≤ length room.old) }
-    ensures { Carried params.now flags.now records.now array.now counts.now t i registers.old room.old
-        result.target (i + result.count) registers.new room.new }
+    ensures { CarriesOn records.now t i registers.old room.old result.target (i + result.count) registers.new room.new }
 {
-    let g = t.geometry;
-    let row = fill.row;
-    let at = fill.at;
-    let l = lun_of(g, row);
-    let p = page_size(g);
-    let most = lesser(records.len() / 2 - i, p - at.0);
+    let at = fill.at.0;
+    let l = lun_of(t.geometry, fill.row);
+    let p = page_size(t.geometry);
+    let most = (records.len() / 2 - i).min(p - at);
     let k = data_run(false, records, i, most);
-    take_in(p, l * p, records, i, at.0, k, registers, room);
+    take_in(p, l * p, records, i, at, k, registers, room);
     Carry {
-        target: with_place(t, fill, at.0 + k),
+        target: with_place(t, fill, at + k),
         count: k,
     }
 }
@@ -164,21 +145,15 @@ fn give_burst(
     i: usize,
     records: &[u8],
     room: &mut [u8],
-    params: &[u8],
-    array: &[u8],
     registers: &[u8],
-    counts: &[u8],
-    flags: &[u8],
 ) -> Carry
-    requires flags_value { usable t (length params.now) (length array.now) (length registers.now) (length counts.now) (length flags.now) ≡ true }
+    requires sound { (record_sound t ≡ true) × (length registers.now ≡ t.geometry.luns * page_size t.geometry) }
     requires seen_value { (t.seen ≡ true) × (t.decoder.output ≡ output.Register lun column) × (works t.luns lun ≡ false) × (is_bare t.decoder.sequence ≡ false) }
     requires i_in_bounds { (2 * i ≤ length records.now) × (length records.now ≤ length room.old) }
-    ensures { Carried params.now flags.now records.now array.now counts.now t i registers.now room.old
-        result.target (i + result.count) registers.now room.new }
+    ensures { CarriesOn records.now t i registers.now room.old result.target (i + result.count) registers.now room.new }
 {
-    let g = t.geometry;
-    let p = page_size(g);
-    let most = lesser(records.len() / 2 - i, p - column.0);
+    let p = page_size(t.geometry);
+    let most = (records.len() / 2 - i).min(p - column.0);
     let k = data_run(true, records, i, most);
     give_out(registers, i, lun * p + column.0, k, room);
     Carry {
@@ -188,46 +163,20 @@ fn give_burst(
 }
 
 // As many records from `i` on as go without looking at the record of the target at each: none, where no data comes.
-pub fn burst(
-    ok: bool,
-    t: Target,
-    i: usize,
-    records: &[u8],
-    room: &mut [u8],
-    params: &[u8],
-    array: &[u8],
-    registers: &mut [u8],
-    counts: &[u8],
-    flags: &[u8],
-) -> Carry
-    requires ok_value { ok ≡ usable t (length params.now) (length array.now) (length registers.old) (length counts.now) (length flags.now) }
+pub fn burst(t: Target, i: usize, records: &[u8], room: &mut [u8], registers: &mut [u8]) -> Carry
+    requires sound { (record_sound t ≡ true) × (length registers.old ≡ t.geometry.luns * page_size t.geometry) }
     requires i_in_bounds { (2 * i ≤ length records.now) × (length records.now ≤ length room.old) }
-    ensures { Carried params.now flags.now records.now array.now counts.now t i registers.old room.old
-        result.target (i + result.count) registers.new room.new }
+    ensures { CarriesOn records.now t i registers.old room.old result.target (i + result.count) registers.new room.new }
 {
-    if ok & t.seen {
-        let d = t.decoder;
-        let s = d.sequence;
-        match s {
-            Sequence::Filling(fill) => {
-                return fill_burst(
-                    t, fill, i, records, room, params, array, registers, counts, flags,
-                );
-            }
-            _ => {}
+    if t.seen {
+        if let Sequence::Filling(fill) = t.decoder.sequence {
+            return fill_burst(t, fill, i, records, room, registers);
         }
-        let o = d.output;
-        match o {
-            Output::Register { lun, column } => {
-                let luns = t.luns;
-                // after a bare 00h the kept output comes out, not this one
-                if !works(luns, lun) & !is_bare(s) {
-                    return give_burst(
-                        t, lun, column, i, records, room, params, array, registers, counts, flags,
-                    );
-                }
+        if let Output::Register { lun, column } = t.decoder.output {
+            // after a bare 00h the kept output comes out, not this one
+            if !works(t.luns, lun) && !is_bare(t.decoder.sequence) {
+                return give_burst(t, lun, column, i, records, room, registers);
             }
-            _ => {}
         }
     }
     Carry {
@@ -242,5 +191,5 @@ pub fn may_burst(records: &[u8], i: usize) -> bool
     ensures { result ≡ (eqb (get_or records.now (2 * i) 0) 2 || eqb (get_or records.now (2 * i) 0) 3) }
 {
     let kind = byte_at(records, 2 * i);
-    (kind == 2) | (kind == 3)
+    kind == 2 || kind == 3
 }

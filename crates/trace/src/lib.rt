@@ -9,34 +9,27 @@ ghost use Rattle.target.specs.declared.Refusal.TheVariants as refusal;
 ghost use Rattle.target.specs.Pick.{pick};
 ghost use Rattle.step.specs.Usable.{usable};
 ghost use Rattle.step.specs.Step.{Outcome, step_of};
-ghost use Rattle.trace.specs.Run.{run_number, Running, written, one_more, ran_all, events_of, stands_usable, odd_answered, needed, start, Traced, trace_of};
+ghost use Rattle.trace.specs.Run.{run_number, Running, written, one_more, ran_all, events_of, stands_usable, odd_answered, needed, start, came_to, trace_of};
 
 use bursts::{burst, may_burst};
 use step::usable::usable;
 use step::{Stepped, steady};
 use target::{Decoder, Event, Output, Refusal, Reply, Target, reply_first, reply_second};
 
-// What a run of a trace or a batch answers as a whole.
+// Why a trace or a batch is refused as a whole. Then nothing was changed, and the target is what it was.
 #[derive(Clone, Copy)]
-pub enum RunAnswer {
-    Done,
+pub enum RunRefusal {
     // 16
     NoRoom,
 }
 
-#[derive(Clone, Copy)]
-pub struct Ran {
-    pub answer: RunAnswer,
-    pub target: Target,
-}
-
 // Document 01's number of a run's answer, 0 where it was run.
-pub fn run_number(a: RunAnswer) -> u8
-    ensures { result ≡ run_number a }
+pub fn run_number<T: Copy>(outcome: Result<T, RunRefusal>) -> u8
+    ensures { result ≡ run_number outcome }
 {
-    match a {
-        RunAnswer::Done => 0,
-        RunAnswer::NoRoom => 16,
+    match outcome {
+        Ok(_) => 0,
+        Err(RunRefusal::NoRoom) => 16,
     }
 }
 
@@ -75,7 +68,7 @@ fn step_known(
 }
 
 // The same output, made anew from its numbers. A copy of it would take the gaps between them along, and the compiler can't see
-// that nobody reads those: carried from event to event, they were half the time of a trace.
+// that nobody reads those: carried from event to event, they were half the time of a trace. So it has an arm for each.
 fn output_anew(o: Output) -> Output
     ensures { result ≡ o }
 {
@@ -93,13 +86,10 @@ fn output_anew(o: Output) -> Output
 fn outputs_anew(t: Target) -> Target
     ensures { result ≡ t }
 {
-    let d = t.decoder;
-    let o = d.output;
-    let k = d.kept;
     let decoder = Decoder {
-        output: output_anew(o),
-        kept: output_anew(k),
-        ..d
+        output: output_anew(t.decoder.output),
+        kept: output_anew(t.decoder.kept),
+        ..t.decoder
     };
     Target { decoder, ..t }
 }
@@ -130,13 +120,11 @@ fn turn(
         value: records[2 * i + 1],
     };
     let s = step_known(ok, t, e, params, array, registers, counts, flags);
-    let r = s.reply;
-    put_reply(room, i, r);
-    let next = s.target;
-    outputs_anew(next)
+    put_reply(room, i, s.reply);
+    outputs_anew(s.target)
 }
 
-// All whole records. Whether rule 13 holds can't change on the way.
+// All whole records. Whether rule 13 holds can't change on the way. An index, since a burst of data leaps over many records.
 fn run_records(
     ok: bool,
     t: Target,
@@ -163,10 +151,8 @@ fn run_records(
             ok, at, i, records, room, params, array, registers, counts, flags,
         );
         i += 1;
-        if may_burst(records, i) {
-            let b = burst(
-                ok, at, i, records, room, params, array, registers, counts, flags,
-            );
+        if ok && may_burst(records, i) {
+            let b = burst(at, i, records, room, registers);
             at = b.target;
             i += b.count;
         }
@@ -202,7 +188,8 @@ fn answer_odd(ok: bool, n: usize, room: &mut [u8])
     }
 }
 
-// A byte trace. Refusals don't stop it; if the room is too short for all replies, it is refused once and nothing changes.
+// A byte trace, and the target after it. Refusals don't stop it; if the room is too short for all replies, it is refused once
+// and nothing changes.
 pub fn run(
     t: Target,
     records: &[u8],
@@ -212,17 +199,13 @@ pub fn run(
     registers: &mut [u8],
     counts: &mut [u8],
     flags: &[u8],
-) -> Ran
-    ensures { ◌≡◌ {A = Traced}
-        (record { answer = result.answer; target = result.target; buffers = record { array = array.new; registers = registers.new; counts = counts.new }; room = room.new })
-        (trace_of t records.now room.old params.now (record { array = array.old; registers = registers.old; counts = counts.old }) flags.now) }
+) -> Result<Target, RunRefusal>
+    ensures { came_to t result (record { array = array.new; registers = registers.new; counts = counts.new }) room.new
+        ≡ trace_of t records.now room.old params.now (record { array = array.old; registers = registers.old; counts = counts.old }) flags.now }
 {
     let n = records.len();
     if too_short(room.len(), n) {
-        return Ran {
-            answer: RunAnswer::NoRoom,
-            target: t,
-        };
+        return Err(RunRefusal::NoRoom);
     }
     let ok = usable(
         t,
@@ -236,8 +219,5 @@ pub fn run(
         ok, t, records, room, params, array, registers, counts, flags,
     );
     answer_odd(ok, n, room);
-    Ran {
-        answer: RunAnswer::Done,
-        target,
-    }
+    Ok(target)
 }

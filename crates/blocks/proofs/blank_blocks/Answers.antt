@@ -26,22 +26,15 @@ blank_block-requires c =
 
 pub overflow_add-n : goal.overflow_add-n
 overflow_add-n c =
-    omega (arith, c.one_if-more.ensures.1, c.loop-i.invariant.small, c.loop-i-test.true, (limits _ c.requires.0).blocks-max)
-
-pub overflow_add-i : goal.overflow_add-i
-overflow_add-i c =
-    omega (arith, c.loop-i-test.true, (limits _ c.requires.0).blocks-max)
-
-pub loop-i-smaller : goal.loop-i-smaller
-loop-i-smaller c = omega (arith, c.loop-i-test.true)
+    omega (arith, c.one_if-n.ensures.1, c.loop-i.invariant.small, c.loop-i-test.true, (limits _ c.requires.0).blocks-max)
 
 pub loop-i-preserved : goal.loop-i-preserved
 loop-i-preserved c =
     let old = c.loop-i.invariant in
     record {
-      number = rw (c.one_if-more.ensures.0, c.blank_block.ensures) (one-block-more _ _ _ _ _ _ old.number);
+      number = rw (c.one_if-n.ensures.0, c.blank_block.ensures) (one-block-more _ _ _ _ _ _ old.number);
       start = old.start;
-      small = omega (arith, c.one_if-more.ensures.1, old.small);
+      small = omega (arith, c.one_if-n.ensures.1, old.small);
       within = omega (arith, c.loop-i-test.true);
     }
 

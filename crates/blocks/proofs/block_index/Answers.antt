@@ -2,7 +2,6 @@
 use native.Mathlib.Omega.{arith}
 use Rattle.blocks.proofs.Places.{block-below, block-parts}
 use Rattle.target.proofs.Limits.{limits, blocks-all}
-use Rattle.blocks.specs.Blocks.{block_index}
 use Rattle.blocks.proofs.block_index.Goals as goal
 
 pub overflow_mul-result : goal.overflow_mul-result
@@ -15,11 +14,3 @@ overflow_add-result c =
     let end = block-below c.args.g c.args.r c.requires.1 in
     rw (c.block_of.ensures, c.lun_of.ensures)
     (omega (arith, block-parts c.args.g c.args.r, end, blocks-all (limits _ c.requires.0)))
-
-pub returns : goal.returns
-unfolding block_index
-returns c =
-    rw (
-      c.block_of.ensures,
-      c.lun_of.ensures,
-    )

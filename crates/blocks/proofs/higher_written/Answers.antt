@@ -1,7 +1,6 @@
 -- `blocks::higher_written` meets its contract.
 use native.Mathlib.Omega.{arith}
 use Rattle.target.proofs.Limits.{limits, pages-all}
-use Rattle.blocks.specs.Blocks.{higher_written}
 use Rattle.blocks.proofs.Places.{row-page, page-below}
 use Rattle.blocks.proofs.higher_written.Goals as goal
 
@@ -18,12 +17,3 @@ overflow_add-page_of c =
 pub overflow_sub-g : goal.overflow_sub-g
 overflow_sub-g c =
     rw c.page_of.ensures (omega (arith, row-page c.args.g c.args.r c.requires.1))
-
-pub returns : goal.returns
-unfolding higher_written
-returns c =
-    rw (
-      c.some_set_part.ensures,
-      c.page_of.ensures,
-      c.page_index-first.ensures,
-    )

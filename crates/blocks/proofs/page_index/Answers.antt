@@ -2,7 +2,6 @@
 use native.Mathlib.Omega.{arith}
 use Rattle.blocks.proofs.Places.{page-below, page-parts, row_block}
 use Rattle.target.proofs.Limits.{limits, pages-all}
-use Rattle.blocks.specs.Blocks.{page_index}
 use Rattle.blocks.proofs.page_index.Goals as goal
 
 pub block_index-requires : goal.block_index-requires
@@ -18,11 +17,3 @@ overflow_add-result c =
     let end = page-below c.args.g c.args.r c.requires.1 in
     rw (c.page_of.ensures, c.block_index.ensures)
     (omega (arith, page-parts c.args.g c.args.r, end, pages-all (limits _ c.requires.0)))
-
-pub returns : goal.returns
-unfolding page_index
-returns c =
-    rw (
-      c.page_of.ensures,
-      c.block_index.ensures,
-    )

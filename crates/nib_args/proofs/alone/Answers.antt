@@ -1,22 +1,17 @@
--- `nib_args::alone` meets its contract.
-use Rattle.nib_args.specs.Asked.{alone_of}
+-- The two long words: their bytes, one by one, are the word.
+use Rattle.std.proofs.Common.{arith}
+use Rattle.std.proofs.lemmas.Slice.Eq.{text_from_reads}
+use Rattle.nib_args.specs.Asked.{version_word, help_flag}
 use Rattle.nib_args.proofs.alone.Goals as goal
 
-pub returns : goal.returns
-unfolding alone_of
-returns c =
-    rw (
-      c.pick_asked.ensures,
-      c.is_word-7.ensures,
-      c.pick_asked-a-5.ensures,
-      c.is_word-6.ensures,
-      c.pick_asked-a-4.ensures,
-      c.is_word-5.ensures,
-      c.pick_asked-a-3.ensures,
-      c.is_word-4.ensures,
-      c.pick_asked-a-2.ensures,
-      c.is_word-3.ensures,
-      c.pick_asked-a.ensures,
-      c.is_word-2.ensures,
-      c.is_word.ensures,
-    )
+pub returns-in-version : goal.returns-in-version
+returns-in-version c =
+    let e = text_from_reads c.args.w.now version_word (omega arith)
+    (omega arith, (omega arith, (omega arith, (omega arith, (omega arith, (omega arith, (omega arith, tt))))))) in
+    rw e
+
+pub returns-in-help-2 : goal.returns-in-help-2
+returns-in-help-2 c =
+    let e = text_from_reads c.args.w.now help_flag (omega arith)
+    (omega arith, (omega arith, (omega arith, (omega arith, (omega arith, (omega arith, tt)))))) in
+    rw e

@@ -1,25 +1,11 @@
--- `nib_args::named` meets its contract.
-use Rattle.nib_args.specs.Asked.{named}
+-- The longest word: its bytes, one by one, are the word.
+use Rattle.std.proofs.Common.{arith}
+use Rattle.std.proofs.lemmas.Slice.Eq.{text_from_reads}
+use Rattle.nib_args.specs.Asked.{explain_word}
 use Rattle.nib_args.proofs.named.Goals as goal
 
-pub returns : goal.returns
-unfolding named
-returns c =
-    rw (
-      c.pick_asked.ensures,
-      c.is_word-8.ensures,
-      c.pick_asked-a-7.ensures,
-      c.is_word-7.ensures,
-      c.pick_asked-a-6.ensures,
-      c.is_word-6.ensures,
-      c.pick_asked-a-5.ensures,
-      c.is_word-5.ensures,
-      c.pick_asked-a-4.ensures,
-      c.is_word-4.ensures,
-      c.pick_asked-a-3.ensures,
-      c.is_word-3.ensures,
-      c.pick_asked-a-2.ensures,
-      c.is_word-2.ensures,
-      c.pick_asked-a.ensures,
-      c.is_word.ensures,
-    )
+pub returns-in-explain : goal.returns-in-explain
+returns-in-explain c =
+    let e = text_from_reads c.args.w.now explain_word (omega arith)
+    (omega arith, (omega arith, (omega arith, (omega arith, (omega arith, (omega arith, (omega arith, tt))))))) in
+    rw e

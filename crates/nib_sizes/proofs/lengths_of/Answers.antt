@@ -18,7 +18,3 @@ pub overflow_mul-result-2 : goal.overflow_mul-result-2
 overflow_mul-result-2 c =
     let most = registers-all (limits c.args.g c.requires) in
     rw c.page_size-p.ensures (omega (arith, most))
-
-pub returns : goal.returns
-returns c =
-    rw c.page_size-p.ensures

@@ -14,16 +14,13 @@ loop-i-init c = sweep-none _ _
 pub bounds-src-i : goal.bounds-src-i
 bounds-src-i c = omega (arith, c.loop-i.invariant.as_long)
 
-pub loop-i-smaller : goal.loop-i-smaller
-loop-i-smaller c = omega (arith, c.loop-i.invariant.as_long)
-
 pub loop-i-preserved : goal.loop-i-preserved
 loop-i-preserved c =
     let i = c.loop-i.i in
     let old = c.args.dst.now in
     let src = c.args.src.now in
-    let test = c.loop-i-test.true in
-    let below : i < length old = omega (arith, c.loop-i.invariant.as_long) in
+    let below : i < length old = c.loop-i-test.true in
+    let test : i < length c.loop-i.dst = omega (arith, c.loop-i.invariant.as_long) in
     sweep-more (length-and old src) c.loop-i.invariant _ test
     (ap (λ (x : ℕ). bit_and x (get_or src i 0)) (sweep-read (length-and old src) c.loop-i.invariant test)
     ∙ sym (get_or-and old src i below (omega arith)))
@@ -33,4 +30,4 @@ shape_of-dst c = c.loop-i.invariant.as_long
 
 pub returns : goal.returns
 returns c =
-    sweep-end (length-and c.args.dst.now c.args.src.now) c.loop-i.invariant c.loop-i-test.false
+    sweep-end (length-and c.args.dst.now c.args.src.now) c.loop-i.invariant (omega (arith, c.loop-i.invariant.as_long))

@@ -1,12 +1,7 @@
 -- `slices::and_into` meets its contract: a sweep towards the ANDed list.
-use Prim.Native.Nat.{◌-◌}
-use lib.ListN.{length}
 use Rattle.slices.proofs.Sweep.{Sweep}
 use Rattle.slices.specs.Cells.{and_bytes}
 use Rattle.slices.proofs.and_into.Given as goal
 
 abbrev pub invariant-loop-i : goal.invariant-loop-i
 invariant-loop-i l = Sweep (and_bytes l.initial.dst l.src) l.initial.dst l.dst l.i
-
-abbrev pub decreases-loop-i : goal.decreases-loop-i
-decreases-loop-i l = length l.initial.dst - l.i

@@ -1,13 +1,7 @@
--- `slices::some_set` meets its contract.
-use mathlib.Core.Path.{◌≡◌}
-use mathlib.Core.Bool.{◌||◌}
-use Prim.Native.Nat.{◌-◌}
-use lib.ListN.{length, drop}
+-- `slices::some_set` meets its contract: what has been passed has been looked at.
+use Rattle.std.proofs.Common.{◌≡◌, take}
 use Rattle.slices.specs.Cells.{some_set}
 use Rattle.slices.proofs.some_set.Given as goal
 
-abbrev pub invariant-loop-i : goal.invariant-loop-i
-invariant-loop-i l = some_set l.s ≡ (l.any || some_set (drop l.i l.s))
-
-abbrev pub decreases-loop-i : goal.decreases-loop-i
-decreases-loop-i l = length l.s - l.i
+abbrev pub invariant-loop-x : goal.invariant-loop-x
+invariant-loop-x l = l.any ≡ some_set (take l.x-index l.s)

@@ -1,5 +1,4 @@
 -- `step::accept` meets its contract.
-use Rattle.step.specs.Step.{accepted, accepted_by, worked}
 use Rattle.step.proofs.Sound.{sound, places-small}
 use Rattle.step.proofs.WorkReady.{work-ready}
 use Rattle.step.proofs.accept.Goals as goal
@@ -12,21 +11,8 @@ findings-found-requires c =
 pub perform-requires : goal.perform-requires
 perform-requires c =
     let ready = work-ready c.args.t c.args.e c.args.counts.now c.args.flags.now c.requires.t_value c.requires.e_value c.findings-found.result c.findings-found.ensures in
-    record { g_value = (sound c.args.t c.requires.t_value).limited; ready = rw c.work_of-w.ensures ready; sizes = c.requires.sizes }
+    record { g_value = (sound c.args.t c.requires.t_value).limited; ready = rw c.work_of-work.ensures ready; sizes = c.requires.sizes }
 
-pub target_after-n-requires : goal.target_after-n-requires
-target_after-n-requires c =
+pub target_after-requires : goal.target_after-requires
+target_after-requires c =
     record { geometry_value = (sound _ c.requires.t_value).limited; sequence_bound = places-small _ c.requires.t_value }
-
-pub returns : goal.returns
-unfolding accepted accepted_by worked
-returns c =
-    rw (
-      c.target_after-n.ensures,
-      c.perform.ensures.array,
-      c.perform.ensures.registers,
-      c.perform.ensures.counts,
-      c.work_of-w.ensures,
-      c.reply_of-reply.ensures,
-      c.findings-found.ensures,
-    )

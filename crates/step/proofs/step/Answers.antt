@@ -1,23 +1,10 @@
 -- `step::step` meets its contract.
 use mathlib.Core.Path.{sym, ◌∙◌}
 use Rattle.step.proofs.Sound.{passes}
-use Rattle.step.specs.Step.{step_of}
 use Rattle.step.proofs.step.Goals as goal
-
-pub returns-then-not-usable : goal.returns-then-not-usable
-unfolding step_of
-returns-then-not-usable c =
-    let bad = sym c.usable.ensures ∙ c.if-not-usable.true in
-    rw bad
 
 pub steady-requires : goal.steady-requires
 steady-requires c =
     let ok = sym c.usable.ensures ∙ c.if-not-usable.false in
     let u = passes c.args.t c.args.params.now c.args.array.now c.args.registers.now c.args.counts.now c.args.flags.now ok in
     record { t_value = u.record-sound; sizes = u.sizes }
-
-pub returns : goal.returns
-unfolding step_of
-returns c =
-    let ok = sym c.usable.ensures ∙ c.if-not-usable.false in
-    rw (ok) c.steady.ensures

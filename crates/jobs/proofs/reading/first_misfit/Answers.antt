@@ -1,21 +1,25 @@
 -- `jobs::reading::first_misfit` meets its contract.
-use native.Mathlib.Omega.{arith}
+use Rattle.std.proofs.Common.{rules, ◌∙◌, ap, arith, Ok}
 use Rattle.jobs.proofs.Walks.{walking, walked_end, walked-misfit, walked-ahead, walked_on}
 use Rattle.jobs.proofs.reading.first_misfit.Goals as goal
 
-pub loop-p-init : goal.loop-p-init
-loop-p-init c = walking _
+pub loop-found-init : goal.loop-found-init
+loop-found-init c = walking _
 
-pub returns-in-End : goal.returns-in-End
-returns-in-End c = walked_end c.args.trace.now c.loop-p.at c.loop-p.invariant _ c.job_at-f.ensures c.in-End.is
+pub returns-in_err-found : goal.returns-in_err-found
+returns-in_err-found c =
+    let told = walked-misfit c.args.trace.now c.loop-found.at c.loop-found.invariant _ c.job_at.ensures _ c.in_err-found.was in
+    rw (← told) (search rules)
 
-pub returns-in-Misfit : goal.returns-in-Misfit
-returns-in-Misfit c = walked-misfit c.args.trace.now c.loop-p.at c.loop-p.invariant _ c.job_at-f.ensures _ c.in-Misfit.is
-
-pub loop-p-smaller : goal.loop-p-smaller
-loop-p-smaller c =
-    let on = walked-ahead c.args.trace.now c.loop-p.at c.loop-p.invariant _ c.job_at-f.ensures _ _ _ _ c.in-Whole.is in
+pub loop-found-smaller : goal.loop-found-smaller
+loop-found-smaller c =
+    let on = walked-ahead c.args.trace.now c.loop-found.at c.loop-found.invariant _ c.job_at.ensures _ (c.in_ok-found.was ∙ ap Ok c.in-Some.is) in
     omega arith
 
-pub loop-p-preserved : goal.loop-p-preserved
-loop-p-preserved c = walked_on c.args.trace.now c.loop-p.at c.loop-p.invariant _ c.job_at-f.ensures _ _ _ _ c.in-Whole.is
+pub loop-found-preserved : goal.loop-found-preserved
+loop-found-preserved c =
+    walked_on c.args.trace.now c.loop-found.at c.loop-found.invariant _ c.job_at.ensures _ (c.in_ok-found.was ∙ ap Ok c.in-Some.is)
+
+pub returns : goal.returns
+returns c =
+    walked_end c.args.trace.now c.loop-found.at c.loop-found.invariant _ c.job_at.ensures (c.in_ok-found.was ∙ ap Ok c.in_default.is)

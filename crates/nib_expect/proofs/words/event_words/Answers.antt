@@ -1,18 +1,12 @@
--- `nib_expect::words::event_words` meets its contract.
+-- `nib_expect::words::event_words`: one after the other.
+use Rattle.nib_words.proofs.Desks.{and_then}
 use Rattle.nib_expect.specs.Words.{event_words}
-use Rattle.nib_words.proofs.Desks.{then, said, unsaid}
 use Rattle.nib_expect.proofs.words.event_words.Goals as goal
 
-pub returns-then-on : goal.returns-then-on
+pub returns : goal.returns
 unfolding event_words
-returns-then-on c =
-    said _ _ _ _ c.if-on.true (
-    then _ _ _ _ _ c.say-at.ensures
-    (then _ _ _ _ _ c.number-at.ensures
-    (then _ _ _ _ _ c.say-at-then-on.ensures
-    c.refused.ensures)))
-
-pub returns-else-on : goal.returns-else-on
-unfolding event_words
-returns-else-on c =
-    unsaid _ _ _ c.if-on.false
+returns c =
+    and_then c.say.ensures
+    (and_then c.number.ensures
+    (and_then c.say-2.ensures
+    c.refused.ensures))

@@ -1,16 +1,8 @@
--- `nib_expect::words::refused_last` meets its contract.
+-- `nib_expect::words::refused_last`: one after the other.
+use Rattle.nib_words.proofs.Desks.{and_then}
 use Rattle.nib_expect.specs.Words.{refused_last}
-use Rattle.nib_words.proofs.Desks.{then, said, unsaid}
 use Rattle.nib_expect.proofs.words.refused_last.Goals as goal
 
-pub returns-then-on : goal.returns-then-on
+pub returns : goal.returns
 unfolding refused_last
-returns-then-on c =
-    said _ _ _ _ c.if-on.true (
-    then _ _ _ _ _ c.say-at.ensures
-    c.refused.ensures)
-
-pub returns-else-on : goal.returns-else-on
-unfolding refused_last
-returns-else-on c =
-    unsaid _ _ _ c.if-on.false
+returns c = and_then c.say.ensures c.refused.ensures

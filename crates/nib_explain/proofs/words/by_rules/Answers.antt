@@ -1,19 +1,9 @@
--- `nib_explain::words::by_rules` meets its contract.
+-- `nib_explain::words::by_rules`: one rule more.
 use Rattle.nib_explain.proofs.Lists.{ruling-turn, ruling-end}
-use Rattle.nib_explain.specs.Words.{by_rules}
-use mathlib.Core.Path.{refl}
 use Rattle.nib_explain.proofs.words.by_rules.Goals as goal
 
-pub loop-i-init : goal.loop-i-init
-loop-i-init c = record { rest = refl; same = refl }
-
-pub loop-i-preserved : goal.loop-i-preserved
-loop-i-preserved c =
-    ruling-turn _ _ _ _ _ _ _ _ c.loop-i.invariant c.loop-i-test.true c.rule_times-n.ensures
-
-pub shape_of-out : goal.shape_of-out
-shape_of-out c = c.loop-i.invariant.same
+pub loop-rule-preserved : goal.loop-rule-preserved
+loop-rule-preserved c = ruling-turn _ _ _ _ _ _ c.loop-rule.invariant c.loop-rule-test.true c.rule_times.ensures
 
 pub returns : goal.returns
-unfolding by_rules
-returns c = ruling-end _ _ _ _ _ _ c.loop-i.invariant c.loop-i-test.false
+returns c = ruling-end _ _ _ _ _ c.loop-rule.invariant c.loop-rule-test.false

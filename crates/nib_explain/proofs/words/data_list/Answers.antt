@@ -1,17 +1,11 @@
--- `nib_explain::words::data_list` meets its contract.
-use Rattle.nib_words.proofs.Desks.{then, said, unsaid}
+-- `nib_explain::words::data_list`: one after the other.
+use Rattle.nib_words.proofs.Desks.{and_then}
 use Rattle.nib_explain.specs.Words.{data_list}
 use Rattle.nib_explain.proofs.words.data_list.Goals as goal
 
-pub returns-then-on : goal.returns-then-on
+pub returns : goal.returns
 unfolding data_list
-returns-then-on c =
-    said _ _ _ _ c.if-on.true (
-    then _ _ _ _ _ c.say-at.ensures
-    (then _ _ _ _ _ c.listed-at.ensures
-    c.say_if.ensures))
-
-pub returns-else-on : goal.returns-else-on
-unfolding data_list
-returns-else-on c =
-    unsaid _ _ _ c.if-on.false
+returns c =
+    and_then c.say.ensures
+    (and_then c.listed.ensures
+    c.say_if.ensures)

@@ -1,12 +1,13 @@
--- `nib_speech::pieces::piece_words` meets its contract.
+-- `nib_speech::pieces::piece_words`: one after the other.
+use Rattle.nib_words.proofs.Desks.{and_then}
 use Rattle.nib_speech.specs.Pieces.{piece_words}
-use Rattle.nib_words.proofs.Desks.{then}
 use Rattle.nib_speech.proofs.pieces.piece_words.Goals as goal
 
 pub returns : goal.returns
 unfolding piece_words
 returns c =
-    then _ _ _ _ _ c.counted_outs-at.ensures
-    (then _ _ _ _ _ c.put_if-at.ensures
-    (then _ _ _ _ _ c.letter-at.ensures
-    c.value.ensures))
+    rw (← c.letter_words.ensures)
+    (and_then c.counted_outs.ensures
+    (and_then c.put_if.ensures
+    (and_then c.say.ensures
+    c.value.ensures)))

@@ -1,8 +1,6 @@
--- `nib_speech::pieces::spaced` meets its contract.
-use Rattle.nib_words.proofs.Desks.{then}
+-- `nib_speech::pieces::spaced`: one after the other.
+use Rattle.nib_words.proofs.Desks.{and_then}
 use Rattle.nib_speech.proofs.pieces.spaced.Goals as goal
 
 pub returns : goal.returns
-returns c =
-    then _ _ _ _ _ c.put-at.ensures
-    c.hex.ensures
+returns c = and_then c.put.ensures c.hex.ensures

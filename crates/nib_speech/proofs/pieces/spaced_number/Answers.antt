@@ -1,8 +1,6 @@
--- `nib_speech::pieces::spaced_number` meets its contract.
-use Rattle.nib_words.proofs.Desks.{then}
+-- `nib_speech::pieces::spaced_number`: one after the other.
+use Rattle.nib_words.proofs.Desks.{and_then}
 use Rattle.nib_speech.proofs.pieces.spaced_number.Goals as goal
 
 pub returns : goal.returns
-returns c =
-    then _ _ _ _ _ c.put-at.ensures
-    c.number.ensures
+returns c = and_then c.put.ensures c.number.ensures

@@ -1,8 +1,6 @@
--- `nib_speech::pieces::spaced_pair` meets its contract.
-use Rattle.nib_words.proofs.Desks.{then}
+-- `nib_speech::pieces::spaced_pair`: one after the other.
+use Rattle.nib_words.proofs.Desks.{and_then}
 use Rattle.nib_speech.proofs.pieces.spaced_pair.Goals as goal
 
 pub returns : goal.returns
-returns c =
-    then _ _ _ _ _ c.spaced-at.ensures
-    c.spaced.ensures
+returns c = and_then c.spaced.ensures c.spaced-2.ensures

@@ -1,10 +1,8 @@
--- `nib_told::words::alone_words` meets its contract.
+-- `nib_told::words::alone_words`: one after the other.
+use Rattle.nib_words.proofs.Desks.{and_then}
 use Rattle.nib_told.specs.Words.{alone_words}
-use Rattle.nib_words.proofs.Desks.{then}
 use Rattle.nib_told.proofs.words.alone_words.Goals as goal
 
 pub returns : goal.returns
 unfolding alone_words
-returns c =
-    then _ _ _ _ _ c.say_if-at.ensures
-    c.times_words.ensures
+returns c = and_then c.say_if.ensures c.times_words.ensures

@@ -1,11 +1,11 @@
--- `nib_told::words::count_words` meets its contract.
+-- `nib_told::words::count_words`: one after the other.
+use Rattle.nib_words.proofs.Desks.{and_then}
 use Rattle.nib_told.specs.Words.{count_words}
-use Rattle.nib_words.proofs.Desks.{then}
 use Rattle.nib_told.proofs.words.count_words.Goals as goal
 
 pub returns : goal.returns
 unfolding count_words
 returns c =
-    then _ _ _ _ _ c.with_number-at.ensures
-    (then _ _ _ _ _ c.say-at.ensures
+    and_then c.with_number.ensures
+    (and_then c.say.ensures
     c.put_if.ensures)

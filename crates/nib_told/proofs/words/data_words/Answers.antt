@@ -1,11 +1,11 @@
--- `nib_told::words::data_words` meets its contract.
+-- `nib_told::words::data_words`: one after the other.
+use Rattle.nib_words.proofs.Desks.{and_then}
 use Rattle.nib_told.specs.Words.{data_words}
-use Rattle.nib_words.proofs.Desks.{then}
 use Rattle.nib_told.proofs.words.data_words.Goals as goal
 
 pub returns : goal.returns
 unfolding data_words
 returns c =
-    then _ _ _ _ _ c.say_if-at.ensures
-    (then _ _ _ _ _ c.say_if-at-2.ensures
+    rw (← c.data_name.ensures)
+    (and_then c.say.ensures
     c.count_words.ensures)

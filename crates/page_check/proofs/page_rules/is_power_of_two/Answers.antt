@@ -1,49 +1,40 @@
--- `page_check::page_rules::is_power_of_two` meets its contract. The invariant: what is left to look at below k decides.
-use mathlib.Core.Path.{◌≡◌, refl, sym, ◌∙◌}
-use mathlib.Core.Bool.{true}
-use Prim.Native.Nat.{ℕ, zero, suc, ◌-◌, ◌*◌, ◌%◌, ◌^◌, ◌<◌}
-use native.Mathlib.Nat.{not-suc-le-zero, one-mul}
-use native.Mathlib.Omega.{arith}
-use borrow.Author.Tests.{eq-eqb, ne_eqb}
+-- `page_check::page_rules::is_power_of_two` meets its contract.
+use Rattle.std.proofs.Common.{◌≡◌, refl, sym, ◌∙◌, ℕ, zero, suc, ◌+◌, ◌*◌, ◌%◌, ◌^◌, ◌<◌, ◌||◌, Bool, true, false, arith, ◌≢◌, ◌⊎◌, inl, inr}
+use Rattle.std.proofs.lemmas.Bool.{eq-eqb, ne_eqb, cases_eq}
+use native.Mathlib.Nat.{one-mul}
+use native.Mathlib.Numerals.{add-one}
 use lib.Pow.{shl_exact}
+use lib.Dec.{eqb}
 use Rattle.page_check.specs.Check.{power_below}
 use Rattle.page_check.proofs.page_rules.is_power_of_two.Goals as goal
 
+either : (b : Bool) → (b || true) ≡ true
+either true = refl
+either false = refl
+
+-- the shift is the power
 shifted : (k : ℕ) → k < 32 → 1 * 2 ^ k % 2 ^ 64 ≡ 2 ^ k
 shifted k h = shl_exact 1 k 64 (omega arith) (omega arith) ∙ one-mul (2 ^ k)
 
-hit : (k n : ℕ) → 0 < k → n ≡ 2 ^ (k - 1) → true ≡ power_below k n
+hit : (m k n : ℕ) → k < m → n ≡ 2 ^ k → true ≡ power_below m n
 unfolding power_below
-hit zero n h e = absurd (not-suc-le-zero h)
-hit (suc k) n h e =
-    let less : suc k - 1 ≡ k = omega arith in
-    rw (eq-eqb n (2 ^ k) (rw less at e))
+hit zero k n h e = absurd (omega arith)
+hit (suc m) k n h e = by-place (cases_eq k m) (λ other. hit m k n (let o : k ≢ m = other in omega arith) e) where
+  by-place : ((k ≡ m) ⊎ (k ≡ m → ⊥)) → ((k ≡ m → ⊥) → true ≡ power_below m n) → true ≡ (eqb n (2 ^ m) || power_below m n)
+  by-place (inl same) below = rw (eq-eqb n (2 ^ m) (rw same at e))
+  by-place (inr other) below = rw (← below other) (sym (either (eqb n (2 ^ m))))
 
-miss : (k n : ℕ) → 0 < k → (n ≡ 2 ^ (k - 1) → ⊥) → power_below (k - 1) n ≡ power_below k n
+miss : (k n : ℕ) → (n ≡ 2 ^ k → ⊥) → power_below k n ≡ false → power_below (k + 1) n ≡ false
 unfolding power_below
-miss zero n h e = absurd (not-suc-le-zero h)
-miss (suc k) n h e =
-    let less : suc k - 1 ≡ k = omega arith in
-    rw (less, ne_eqb n (2 ^ k) (rw less at e))
+miss k n h e = rw (add-one k, ne_eqb n (2 ^ k) h) e
 
 pub loop-k-init : goal.loop-k-init
-loop-k-init c = record { small = omega arith; left = refl }
+unfolding power_below
+loop-k-init c = refl
 
 pub returns-then-n-k : goal.returns-then-n-k
-returns-then-n-k c =
-    let e = c.if-n-k.true ∙ shifted (c.loop-k.k - 1) (omega arith) in
-    hit c.loop-k.k c.args.n c.loop-k-test.true e ∙ c.loop-k.invariant.left
+returns-then-n-k c = hit 32 c.loop-k.k c.args.n c.loop-k-test.true (c.if-n-k.true ∙ shifted c.loop-k.k c.loop-k-test.true)
 
 pub loop-k-preserved : goal.loop-k-preserved
 loop-k-preserved c =
-    let n = c.args.n in
-    record {
-      small = omega arith;
-      left = miss c.loop-k.k n c.loop-k-test.true (λ e. c.if-n-k.false (e ∙ sym (shifted (c.loop-k.k - 1) (omega arith)))) ∙ c.loop-k.invariant.left;
-    }
-
-pub returns : goal.returns
-unfolding power_below
-returns c =
-    let none : c.loop-k.k ≡ 0 = omega arith in
-    rw none at c.loop-k.invariant.left
+    miss c.loop-k.k c.args.n (λ e. c.if-n-k.false (e ∙ sym (shifted c.loop-k.k c.loop-k-test.true))) c.loop-k.invariant

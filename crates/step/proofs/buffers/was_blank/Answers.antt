@@ -26,19 +26,3 @@ unfolding Reaches
 blank_block-requires-in-Erase c =
     let there = rw c.in-Erase.is at c.requires.reaches in
     (c.requires.g_value, rw c.block_index-in-Erase.ensures (block-below _ _ there))
-
-pub returns-in-Program : goal.returns-in-Program
-returns-in-Program c =
-    rw (
-      c.blank_block.ensures,
-      c.block_index.ensures,
-      c.in-Program.is,
-    )
-
-pub returns-in-Erase : goal.returns-in-Erase
-returns-in-Erase c =
-    rw (
-      c.blank_block-in-Erase.ensures,
-      c.block_index-in-Erase.ensures,
-      c.in-Erase.is,
-    )

@@ -1,7 +1,6 @@
 -- `step::buffers::wipe` meets its contract.
 use native.Mathlib.Omega.{arith}
 use Rattle.blocks.proofs.Places.{block-pages-end, block-bytes-end}
-use Rattle.step.specs.Buffers.{array_after, counts_after}
 use Rattle.step.proofs.buffers.wipe.Goals as goal
 
 pub overflow_mul-first : goal.overflow_mul-first
@@ -33,9 +32,3 @@ fill_part-requires-2 c =
     let pages = block-pages-end c.args.g c.args.r c.requires.g_value.1 in
     let bytes = block-bytes-end c.args.g c.args.r c.requires.g_value.1 in
     rw c.block_index.ensures (omega (arith, pages))
-
-pub returns : goal.returns
-unfolding array_after counts_after
-returns c =
-    let e = c.block_index.ensures in
-    record { array = rw (c.fill_part.ensures, e, c.page_size-p.ensures); counts = rw (c.fill_part-2.ensures, e) }

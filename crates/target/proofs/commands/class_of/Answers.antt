@@ -3,17 +3,19 @@ use Rattle.target.specs.declared.commands.Class.TheVariants as class
 use Rattle.target.proofs.Classes.{class-told, unknown-told}
 use Rattle.target.proofs.commands.class_of.Goals as goal
 
-pub returns-then-n-eq1 : goal.returns-then-n-eq1
-returns-then-n-eq1 c = class-told _ class.First c.ranges.v.fits c.if-n-eq1.true
+pub returns-in-1 : goal.returns-in-1
+returns-in-1 c = class-told _ class.First c.ranges.v.fits c.in-1.is
 
-pub returns-then-n-eq2 : goal.returns-then-n-eq2
-returns-then-n-eq2 c = class-told _ class.Second c.ranges.v.fits c.if-n-eq2.true
+pub returns-in-2 : goal.returns-in-2
+returns-in-2 c = class-told _ class.Second c.ranges.v.fits c.in-2.is
 
-pub returns-then-n-eq3 : goal.returns-then-n-eq3
-returns-then-n-eq3 c = class-told _ class.Both c.ranges.v.fits c.if-n-eq3.true
+pub returns-in-3 : goal.returns-in-3
+returns-in-3 c = class-told _ class.Both c.ranges.v.fits c.in-3.is
 
-pub returns-then-n-eq4 : goal.returns-then-n-eq4
-returns-then-n-eq4 c = class-told _ class.Alone c.ranges.v.fits c.if-n-eq4.true
+pub returns-in-4 : goal.returns-in-4
+returns-in-4 c = class-told _ class.Alone c.ranges.v.fits c.in-4.is
 
-pub returns : goal.returns
-returns c = unknown-told _ c.ranges.v.fits c.if-n-eq1.false c.if-n-eq2.false c.if-n-eq3.false c.if-n-eq4.false
+pub returns-in_default : goal.returns-in_default
+returns-in_default c =
+    let none = c.in_default.in_default-own.rest in
+    unknown-told _ c.ranges.v.fits none.0.0.0.1 none.0.0.1 none.0.1 none.1

@@ -1,7 +1,6 @@
 -- `target::sizes::sized` meets its contract.
 use native.Mathlib.Omega.{arith}
 use Rattle.target.proofs.Limits.{limits, blocks-all, pages-all, bytes-all, registers-all}
-use Rattle.target.specs.Sizes.{sized}
 use Rattle.target.proofs.sizes.sized.Goals as goal
 
 pub overflow_mul-blocks : goal.overflow_mul-blocks
@@ -17,7 +16,3 @@ overflow_mul-bytes c =
 pub overflow_mul-registered : goal.overflow_mul-registered
 overflow_mul-registered c =
     rw c.page_size-p.ensures (omega (arith, registers-all (limits c.args.g c.requires)))
-
-pub returns : goal.returns
-unfolding sized
-returns c = rw c.page_size-p.ensures

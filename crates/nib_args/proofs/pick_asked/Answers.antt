@@ -1,8 +1,0 @@
--- `nib_args::pick_asked` meets its contract.
-use Rattle.nib_args.proofs.pick_asked.Goals as goal
-
-pub returns-then-b : goal.returns-then-b
-returns-then-b c = rw c.if-b.true
-
-pub returns-else-b : goal.returns-else-b
-returns-else-b c = rw c.if-b.false

@@ -1,8 +1,0 @@
--- `nib_text::reading::pick_read` meets its contract.
-use Rattle.nib_text.proofs.reading.pick_read.Goals as goal
-
-pub returns-then-b : goal.returns-then-b
-returns-then-b c = rw c.if-b.true
-
-pub returns-else-b : goal.returns-else-b
-returns-else-b c = rw c.if-b.false

@@ -1,9 +1,0 @@
--- `nib_words::desk::put_if` meets its contract.
-use Rattle.nib_words.proofs.Desks.{said, unsaid}
-use Rattle.nib_words.proofs.desk.put_if.Goals as goal
-
-pub returns-then-on : goal.returns-then-on
-returns-then-on c = said _ _ _ _ c.if-on.true c.put.ensures
-
-pub returns-else-on : goal.returns-else-on
-returns-else-on c = unsaid _ _ _ c.if-on.false

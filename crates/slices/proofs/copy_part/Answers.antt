@@ -1,8 +1,0 @@
--- `slices::copy_part` meets its contract.
-use native.Mathlib.Nat.{add-sub_cancel_left}
-use Rattle.slices.specs.Cells.{splice, part}
-use Rattle.slices.proofs.copy_part.Goals as goal
-
-pub returns : goal.returns
-unfolding splice part
-returns c = rw (c.copy.ensures, add-sub_cancel_left, add-sub_cancel_left)

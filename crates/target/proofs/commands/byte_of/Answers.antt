@@ -1,6 +1,0 @@
--- `target::commands::byte_of` meets its contract.
-use Rattle.target.proofs.commands.byte_of.Goals as goal
-
-pub returns : goal.returns
-returns c =
-    rw c.row_of-row.ensures

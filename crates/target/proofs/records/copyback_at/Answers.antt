@@ -1,6 +1,0 @@
--- `target::records::copyback_at` meets its contract.
-use Rattle.target.proofs.records.copyback_at.Goals as goal
-
-pub returns : goal.returns
-returns c =
-    rw c.lun_at-x.ensures
