@@ -22,6 +22,7 @@ pub fn too_large(rt: HostRuntime, name: &[u8]) -> Told {
 }
 
 // `nib parts`.
+#[inline(never)]
 pub fn show_parts(rt: HostRuntime) {
     let mut pen = Pen::new(rt, To::Output);
     pen.text(
@@ -41,6 +42,7 @@ pub fn show_parts(rt: HostRuntime) {
 }
 
 // `nib version`.
+#[inline(never)]
 pub fn show_version(rt: HostRuntime) {
     let v = version_number() as usize;
     let mut pen = Pen::new(rt, To::Output);

@@ -78,6 +78,7 @@ fn plan_part(rt: HostRuntime, name: &[u8], part: &mut Buffers<'_>) -> Result<(),
 }
 
 // `new`.
+#[inline(never)]
 fn make_new(
     rt: HostRuntime,
     asked: Asked,
@@ -95,7 +96,8 @@ fn make_new(
     Ok(())
 }
 
-// The commands that have a part, or need as much room, over its buffers. `jobs` has its trace where a part's array would stand.
+// The commands that have a part, or need as much room, over its buffers. None is put in the place of its call (`inline(never)`
+// where it stands), since the stack would then have the locals of all. `jobs` has its trace where a part's array would stand.
 fn with_part<R: Read>(
     rt: HostRuntime,
     asked: Asked,
@@ -124,6 +126,7 @@ fn with_part<R: Read>(
 }
 
 // The buffers of a part stand here alone, and this is called in one place, since the stack has no room for two sets.
+#[inline(never)]
 fn on_part<R: Read>(
     rt: HostRuntime,
     asked: Asked,

@@ -96,6 +96,7 @@ fn complain_of_length(rt: HostRuntime, path: &[u8], n: usize) {
 }
 
 // `nib check`.
+#[inline(never)]
 pub fn show_check(rt: HostRuntime, path: &[u8]) {
     let mut room = [0u8; 4096];
     let Ok(answer) = read_front(rt, path, &mut room) else {

@@ -92,6 +92,7 @@ fn telling(rt: HostRuntime, pen: Pen, clear: bool, part: &mut Buffers<'_>) -> Re
     Ok(s.pen)
 }
 
+#[inline(never)]
 pub fn tell(rt: HostRuntime, part: &mut Buffers<'_>) -> Result<(), Told> {
     let mut pen = Pen::new(rt, To::Output);
     pen.text(b"== Program-clear on: 80h clears the register of the LUN that it names.\n");

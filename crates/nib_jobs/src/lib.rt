@@ -45,6 +45,7 @@ fn read_trace<'a, R: Read>(
 }
 
 // `nib jobs`, by the sizes of a part where one is known. The trace is held in what is lent.
+#[inline(never)]
 pub fn tell_jobs<R: Read>(
     rt: HostRuntime,
     part: Option<Geometry>,

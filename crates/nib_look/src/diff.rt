@@ -26,10 +26,10 @@ struct First {
 }
 
 // What was found so far.
-#[derive(Drop)]
-struct Found {
-    pen: Pen,
-    differs: bool,
+#[derive(Clone, Copy)]
+pub struct Found {
+    pub pen: Pen,
+    pub differs: bool,
 }
 
 // How many bytes of two slices differ, and the first place where they do.
@@ -161,6 +161,7 @@ impl Found {
 }
 
 // `nib diff DIR DIR`.
+#[inline(never)]
 pub fn diff(rt: HostRuntime, dir: &[u8], other: &[u8], part: &mut Buffers<'_>) -> Result<(), Told> {
     part.load(rt, dir)?;
     let one = First {
@@ -170,6 +171,9 @@ pub fn diff(rt: HostRuntime, dir: &[u8], other: &[u8], part: &mut Buffers<'_>) -
         counts: part.counts,
         flags: part.flags,
     };
+    // nothing of the first is left beyond the second's lengths, where its page may be another by the time that it is read again
+    part.counts.fill(0);
+    part.flags.fill(0);
     part.load(rt, other)?;
     // a page that can't be read a second time is told of, and then has the sizes of no part
     let g = geometry_in(rt, dir).unwrap_or(NO_SIZES);

@@ -136,6 +136,7 @@ fn place_given(
 }
 
 // `nib dump DIR LUN BLOCK PAGE`.
+#[inline(never)]
 pub fn dump(
     rt: HostRuntime,
     dir: &[u8],

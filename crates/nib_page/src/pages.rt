@@ -168,6 +168,7 @@ fn count_blank(rt: HostRuntime, dir: &[u8], part: &mut Buffers<'_>) -> Result<()
 }
 
 // `nib page`, of a page in a file or of a part folder's. What is no page is told of as an error, and no field of it is made up.
+#[inline(never)]
 pub fn show_page(rt: HostRuntime, path: &[u8], part: &mut Buffers<'_>) -> Result<(), Told> {
     let inside = join(path, b"page");
     if open(rt, inside.as_slice()).is_err() {

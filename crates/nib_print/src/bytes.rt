@@ -1,7 +1,7 @@
 // Bytes that are gathered in a room of their own, since nib has no heap: a list that holds at most `N`.
 ghost use Rattle.std.specs.Prelude.{◌==◌, ◌≤◌, ◌≡◌, ◌++◌, ◌∷◌, [], take};
 
-#[derive(Drop)]
+#[derive(Clone, Copy)]
 pub struct Bytes<const N: usize> {
     room: [u8; N],
     n: usize,

@@ -16,7 +16,7 @@ pub enum To {
     Errors,
 }
 
-#[derive(Drop)]
+#[derive(Clone, Copy)]
 pub struct Pen {
     rt: HostRuntime,
     to: To,

@@ -30,7 +30,7 @@ pub enum Telling {
 }
 
 // How far a trace has come.
-#[derive(Drop)]
+#[derive(Clone, Copy)]
 pub struct Stream {
     target: Target,
     pub pen: Pen,
@@ -278,6 +278,7 @@ fn powered(
 
 // `nib run` and, in words, `nib explain`. Only what was powered, read to its end and answered whole is stored, and by a command
 // that may store alone.
+#[inline(never)]
 pub fn on_folder<R: Read>(
     rt: HostRuntime,
     dir: &[u8],

@@ -22,7 +22,7 @@ pub type Whole = [u8; 262144];
 pub type List = Bytes<87383>;
 
 // How far a script has come.
-#[derive(Drop)]
+#[derive(Clone, Copy)]
 pub struct Script {
     rt: HostRuntime,
     target: Target,
@@ -205,6 +205,7 @@ impl Script {
 
     // How many events and expectations there were, and where an expectation failed the last line on standard error, by which
     // tools/nib gives its status. An error, where one failed or nobody could be told that all held.
+    #[inline(never)]
     fn end(&self) -> Result<(), Told> {
         let mut pen = Pen::new(self.rt, To::Output);
         let events = self.events;
@@ -259,6 +260,7 @@ fn run_script<R: Read>(
 }
 
 // `nib test`. What was powered, read whole, run and found as expected is stored, and by a command that may store alone.
+#[inline(never)]
 pub fn test_folder<R: Read>(
     rt: HostRuntime,
     dir: &[u8],

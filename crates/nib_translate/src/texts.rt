@@ -60,7 +60,7 @@ impl<'a> JobRoom<'a> {
 }
 
 // How far a text has come.
-#[derive(Drop)]
+#[derive(Clone, Copy)]
 pub struct Text {
     reading: Reading,
     spot: Spot,
@@ -217,6 +217,7 @@ fn read_text<'a, R: Read>(
 
 // `nib text`. The whole text is looked at before a record is written: where a word is bad there is no trace, so that none is
 // run in part.
+#[inline(never)]
 pub fn from_text<R: Read>(
     rt: HostRuntime,
     part: Option<Geometry>,
@@ -235,6 +236,7 @@ fn put_piece(pen: &mut Pen, piece: Piece) {
 }
 
 // `nib text -d`. The loop ends with the input, which has no length to count to.
+#[inline(never)]
 pub fn to_text<R: Read>(rt: HostRuntime, input: &mut R) -> Result<(), Told> {
     let mut pen = Pen::new(rt, To::Output);
     let mut writing = writing_begun();

@@ -1,4 +1,4 @@
 pub mod Ten
 pub mod Listing
 pub mod Exactly
-mod Chosen
+pub mod Chosen

@@ -259,31 +259,95 @@ pub fn refuse_if(holds: bool, why: Refusal) -> Result<(), Refusal>
     if holds { Err(why) } else { Ok(()) }
 }
 
-// The first rule that holds, in document 01's order.
-#[tactic(auto, unfolding(crate::specs::Rules::verdict, crate::specs::Rules::rules, target::specs::Pick::or_else))]
+// What a command can meet: 2, 1, 3, 6 and 7.
+#[tactic(auto, unfolding(crate::specs::Rules::verdict, crate::specs::Rules::rules, target::specs::Pick::or_else, target::specs::Events::bad_record, crate::specs::Rules::out_of_range, crate::specs::Rules::not_offered, crate::specs::Rules::lun_works, crate::specs::Rules::past_end, crate::specs::Rules::not_working, crate::specs::Rules::line_held, crate::specs::Rules::no_copyback))]
+fn decide_command(t: Target, v: u8) -> Result<(), Refusal>
+    ensures { result ≡ verdict t (record { kind = 0; value = v }) }
+{
+    let e = Event { kind: 0, value: v };
+    let d = t.decoder;
+    refuse_if(before_reset(t.seen, e), Refusal::BeforeReset)?;
+    refuse_if(unknown(t.words, d.sequence, e), Refusal::Unknown)?;
+    refuse_if(misplaced(d, e), Refusal::Misplaced)?;
+    refuse_if(others_busy(t.luns, t.selected, e), Refusal::OthersWork)?;
+    refuse_if(line_low(t.high, e), Refusal::Protected)
+}
+
+// What an address can meet: 2, 3, 4, 5 and 14.
+#[tactic(auto, unfolding(crate::specs::Rules::verdict, crate::specs::Rules::rules, target::specs::Pick::or_else, target::specs::Events::bad_record, crate::specs::Rules::unknown, crate::specs::Rules::others_busy, crate::specs::Rules::not_offered, crate::specs::Rules::line_low, crate::specs::Rules::past_end, crate::specs::Rules::not_working, crate::specs::Rules::line_held))]
+fn decide_address(t: Target, v: u8) -> Result<(), Refusal>
+    ensures { result ≡ verdict t (record { kind = 1; value = v }) }
+{
+    let e = Event { kind: 1, value: v };
+    let d = t.decoder;
+    let g = t.geometry;
+    refuse_if(before_reset(t.seen, e), Refusal::BeforeReset)?;
+    refuse_if(misplaced(d, e), Refusal::Misplaced)?;
+    refuse_if(out_of_range(g, d.sequence, e), Refusal::OutOfRange)?;
+    refuse_if(lun_works(g, t.luns, t.selected, d, e), Refusal::LunWorks)?;
+    refuse_if(no_copyback(g, t.luns, d.sequence, e), Refusal::NoCopyback)
+}
+
+// What data in can meet: 2, 3, 9 and 8.
+#[tactic(auto, unfolding(crate::specs::Rules::verdict, crate::specs::Rules::rules, target::specs::Pick::or_else, target::specs::Events::bad_record, crate::specs::Rules::unknown, crate::specs::Rules::others_busy, crate::specs::Rules::out_of_range, crate::specs::Rules::lun_works, crate::specs::Rules::line_low, crate::specs::Rules::not_working, crate::specs::Rules::line_held, crate::specs::Rules::no_copyback))]
+fn decide_in(t: Target, v: u8) -> Result<(), Refusal>
+    ensures { result ≡ verdict t (record { kind = 2; value = v }) }
+{
+    let e = Event { kind: 2, value: v };
+    let d = t.decoder;
+    refuse_if(before_reset(t.seen, e), Refusal::BeforeReset)?;
+    refuse_if(misplaced(d, e), Refusal::Misplaced)?;
+    refuse_if(not_offered(t.words, d.sequence, e), Refusal::NotOffered)?;
+    refuse_if(past_end(t.geometry, d, e), Refusal::PastEnd)
+}
+
+// What data out can meet: 12, 2, 3, 5 and 8.
+#[tactic(auto, unfolding(crate::specs::Rules::verdict, crate::specs::Rules::rules, target::specs::Pick::or_else, crate::specs::Rules::unknown, crate::specs::Rules::others_busy, crate::specs::Rules::out_of_range, crate::specs::Rules::not_offered, crate::specs::Rules::line_low, crate::specs::Rules::not_working, crate::specs::Rules::line_held, crate::specs::Rules::no_copyback))]
+fn decide_out(t: Target, v: u8) -> Result<(), Refusal>
+    ensures { result ≡ verdict t (record { kind = 3; value = v }) }
+{
+    let e = Event { kind: 3, value: v };
+    let d = t.decoder;
+    let g = t.geometry;
+    refuse_if(bad_record(e), Refusal::BadRecord)?;
+    refuse_if(before_reset(t.seen, e), Refusal::BeforeReset)?;
+    refuse_if(misplaced(d, e), Refusal::Misplaced)?;
+    refuse_if(lun_works(g, t.luns, t.selected, d, e), Refusal::LunWorks)?;
+    refuse_if(past_end(g, d, e), Refusal::PastEnd)
+}
+
+// What a finish can meet: 10.
+#[tactic(auto, unfolding(crate::specs::Rules::verdict, crate::specs::Rules::rules, target::specs::Pick::or_else, target::specs::Events::bad_record, crate::specs::Rules::before_reset, crate::specs::Rules::unknown, crate::specs::Rules::misplaced, crate::specs::Rules::others_busy, crate::specs::Rules::out_of_range, crate::specs::Rules::not_offered, crate::specs::Rules::lun_works, crate::specs::Rules::line_low, crate::specs::Rules::past_end, crate::specs::Rules::line_held, crate::specs::Rules::no_copyback))]
+fn decide_finish(t: Target, v: u8) -> Result<(), Refusal>
+    ensures { result ≡ verdict t (record { kind = 4; value = v }) }
+{
+    let e = Event { kind: 4, value: v };
+    refuse_if(not_working(t.geometry, t.luns, e), Refusal::NotWorking)
+}
+
+// What the protect line can meet: 12 and 11.
+#[tactic(auto, unfolding(crate::specs::Rules::verdict, crate::specs::Rules::rules, target::specs::Pick::or_else, crate::specs::Rules::before_reset, crate::specs::Rules::unknown, crate::specs::Rules::misplaced, crate::specs::Rules::others_busy, crate::specs::Rules::out_of_range, crate::specs::Rules::not_offered, crate::specs::Rules::lun_works, crate::specs::Rules::line_low, crate::specs::Rules::past_end, crate::specs::Rules::not_working, crate::specs::Rules::no_copyback))]
+fn decide_protect(t: Target, v: u8) -> Result<(), Refusal>
+    ensures { result ≡ verdict t (record { kind = 5; value = v }) }
+{
+    let e = Event { kind: 5, value: v };
+    refuse_if(bad_record(e), Refusal::BadRecord)?;
+    refuse_if(line_held(t.luns, t.decoder.sequence, e), Refusal::LineHeld)
+}
+
+// The first rule that holds, in document 01's order, looking only at the rules that can hold for an event of that kind.
+#[tactic(auto, unfolding(crate::specs::Rules::verdict, crate::specs::Rules::rules, target::specs::Pick::or_else, target::specs::Events::bad_record))]
 pub fn decide(t: Target, e: Event) -> Result<(), Refusal>
     ensures { result ≡ verdict t e }
 {
-    let Target {
-        geometry: g,
-        words: w,
-        luns,
-        selected,
-        decoder: d,
-        ..
-    } = t;
-    let s = d.sequence;
-    refuse_if(bad_record(e), Refusal::BadRecord)?;
-    refuse_if(before_reset(t.seen, e), Refusal::BeforeReset)?;
-    refuse_if(unknown(w, s, e), Refusal::Unknown)?;
-    refuse_if(misplaced(d, e), Refusal::Misplaced)?;
-    refuse_if(others_busy(luns, selected, e), Refusal::OthersWork)?;
-    refuse_if(out_of_range(g, s, e), Refusal::OutOfRange)?;
-    refuse_if(not_offered(w, s, e), Refusal::NotOffered)?;
-    refuse_if(lun_works(g, luns, selected, d, e), Refusal::LunWorks)?;
-    refuse_if(no_copyback(g, luns, s, e), Refusal::NoCopyback)?;
-    refuse_if(line_low(t.high, e), Refusal::Protected)?;
-    refuse_if(past_end(g, d, e), Refusal::PastEnd)?;
-    refuse_if(not_working(g, luns, e), Refusal::NotWorking)?;
-    refuse_if(line_held(luns, s, e), Refusal::LineHeld)
+    let v = e.value;
+    match e.kind {
+        0 => decide_command(t, v),
+        1 => decide_address(t, v),
+        2 => decide_in(t, v),
+        3 => decide_out(t, v),
+        4 => decide_finish(t, v),
+        5 => decide_protect(t, v),
+        _ => Err(Refusal::BadRecord),
+    }
 }

@@ -21,8 +21,9 @@ impl Kind {
     }
 }
 
-pub fn put(g: &mut State, kind: Kind, value: u8) {
-    g.trace.put(kind.number(), value);
+// A record of any two numbers, of which the lowest eight bits stand in it.
+pub fn put(g: &mut State, kind: usize, value: usize) {
+    g.trace.put(byte(kind), byte(value));
 }
 
 pub fn is_busy(g: &State, lun: usize) -> bool {
@@ -36,14 +37,14 @@ pub fn set_busy(g: &mut State, lun: usize) {
 }
 
 pub fn put_finish(g: &mut State, lun: usize) {
-    put(g, Kind::Finish, byte(lun));
+    put(g, Kind::Finish as usize, lun);
     if let Some(busy) = g.busy.get_mut(lun) {
         *busy = false;
     }
 }
 
 pub fn put_reset(g: &mut State) {
-    put(g, Kind::Command, 0xff);
+    put(g, Kind::Command as usize, 0xff);
     g.busy = [false; 4];
     g.selected = 0;
 }
@@ -53,14 +54,14 @@ pub fn put_bad(g: &mut State) {
     let value = g.below(254);
     match what {
         0 => {
-            let kind = byte(add(6, g.below(250)));
-            g.trace.put(kind, byte(value));
+            let kind = add(6, g.below(250));
+            put(g, kind, value);
         }
-        1 => put(g, Kind::DataOut, byte(add(1, value))),
-        2 => put(g, Kind::Protect, byte(add(2, value))),
+        1 => put(g, Kind::DataOut as usize, add(1, value)),
+        2 => put(g, Kind::Protect as usize, add(2, value)),
         _ => {
             let lun = at_most(add(g.part.luns, value), 255);
-            put(g, Kind::Finish, byte(lun));
+            put(g, Kind::Finish as usize, lun);
         }
     }
 }
@@ -70,7 +71,7 @@ pub fn pick_lun(g: &mut State) -> usize {
 }
 
 // One bus cycle, and before it what the knobs sprinkle in.
-pub fn cycle(g: &mut State, kind: Kind, value: u8) {
+pub fn cycle(g: &mut State, kind: usize, value: usize) {
     if g.chance(g.knobs.sprinkle) {
         let lun = pick_lun(g);
         put_finish(g, lun);
@@ -80,7 +81,7 @@ pub fn cycle(g: &mut State, kind: Kind, value: u8) {
     }
     if g.chance(g.knobs.guard) {
         let level = at_most(g.below(3), 1);
-        put(g, Kind::Protect, byte(level));
+        put(g, Kind::Protect as usize, level);
     }
     if g.chance(g.knobs.reset) {
         put_reset(g);
@@ -88,17 +89,17 @@ pub fn cycle(g: &mut State, kind: Kind, value: u8) {
     put(g, kind, value);
 }
 
-pub fn command(g: &mut State, value: u8) {
-    cycle(g, Kind::Command, value);
+pub fn command(g: &mut State, value: usize) {
+    cycle(g, Kind::Command as usize, value);
 }
 
-pub fn address(g: &mut State, value: u8) {
-    cycle(g, Kind::Address, value);
+pub fn address(g: &mut State, value: usize) {
+    cycle(g, Kind::Address as usize, value);
 }
 
 pub fn take_out(g: &mut State, n: usize) {
     for _ in 0..n {
-        cycle(g, Kind::DataOut, 0);
+        cycle(g, Kind::DataOut as usize, 0);
     }
 }
 
@@ -141,7 +142,7 @@ pub fn pick_row(g: &mut State, lun: usize) -> usize {
 // The low bytes of a number as addresses, the lowest first.
 fn put_addresses(g: &mut State, n: usize, cycles: usize) {
     for b in n.to_le_bytes().iter().take(cycles) {
-        address(g, *b);
+        address(g, usize::from(*b));
     }
 }
 

@@ -6,7 +6,7 @@ use test_judge_cycles::{
     pick_length, pick_lun, pick_row, put, put_column, put_finish, put_row, spot, take_out,
 };
 use test_judge_parts::state::State;
-use test_kit::numbers::{add, byte, times};
+use test_kit::numbers::{add, times};
 
 // A LUN and a row of it.
 fn pick_place(g: &mut State) -> (usize, usize) {
@@ -22,7 +22,7 @@ fn take_from(g: &mut State, column: usize) {
 }
 
 // 00h, a row, and 30h or 35h.
-fn load_page(g: &mut State, lun: usize, row: usize, second: u8) {
+fn load_page(g: &mut State, lun: usize, row: usize, second: usize) {
     let column = pick_column(g);
     make_ready(g, lun);
     command(g, 0x00);
@@ -67,7 +67,7 @@ pub fn job_out(g: &mut State) {
 fn give_data(g: &mut State, column: usize) {
     for _ in 0..pick_length(g, column) {
         let value = g.any_byte();
-        cycle(g, Kind::DataIn, value);
+        cycle(g, Kind::DataIn as usize, usize::from(value));
     }
 }
 
@@ -79,7 +79,7 @@ fn move_data(g: &mut State) {
 }
 
 // 80h or 85h, a row, data and moves, 10h.
-fn fill_page(g: &mut State, lun: usize, row: usize, first: u8) {
+fn fill_page(g: &mut State, lun: usize, row: usize, first: usize) {
     let column = pick_column(g);
     let moves = g.below(3);
     make_ready(g, lun);
@@ -149,11 +149,11 @@ pub fn job_status(g: &mut State) {
 }
 
 // A command with one address, which at an edge is below `edge`, times `step`.
-fn short_command(g: &mut State, value: u8, edge: usize, step: usize, right: u8) {
+fn short_command(g: &mut State, value: usize, edge: usize, step: usize, right: usize) {
     make_all_ready(g);
     command(g, value);
     let place = if g.chance(g.knobs.edge) {
-        byte(times(g.below(edge), step))
+        times(g.below(edge), step)
     } else {
         right
     };
@@ -205,7 +205,7 @@ pub fn job_set(g: &mut State) {
     let n = if g.below(8) == 0 { g.below(6) } else { 4 };
     for place in 0..n {
         let value = feature_value(g, place);
-        cycle(g, Kind::DataIn, value);
+        cycle(g, Kind::DataIn as usize, usize::from(value));
     }
 }
 
@@ -221,8 +221,8 @@ pub fn job_give_up(g: &mut State) {
         put_column(g, 0);
     }
     if what == 0 {
-        address(g, byte(row));
-        address(g, byte(row / 256));
+        address(g, row);
+        address(g, row / 256);
     } else {
         put_row(g, lun, row);
     }
@@ -273,7 +273,7 @@ pub fn job_low(g: &mut State) {
     let what = g.below(4);
     let back = g.below(8);
     make_all_ready(g);
-    put(g, Kind::Protect, 0);
+    put(g, Kind::Protect as usize, 0);
     match what {
         0 => job_program(g),
         1 => job_erase(g),
@@ -283,7 +283,7 @@ pub fn job_low(g: &mut State) {
     make_all_ready(g);
     job_status(g);
     if back != 0 {
-        put(g, Kind::Protect, 1);
+        put(g, Kind::Protect as usize, 1);
     }
 }
 

@@ -156,7 +156,7 @@ fn make_case(g: &mut State, answer: usize) {
     put_reset(g);
     if answer == 0 {
         for job in Job::ALL {
-            one_job(g, job);
+            one_job(g, job as usize);
         }
     } else {
         put_bad(g);
@@ -300,7 +300,7 @@ pub fn run_power_line(
     bench: &mut Bench,
 ) {
     bench.buffers.page.fill(0);
-    g.load_knobs(TraceKind::Short);
+    g.load_knobs(TraceKind::Short as usize);
     for i in 0..kind.cases(count) {
         one_case(rt, g, kind, i, bench);
     }

@@ -60,7 +60,7 @@ fn one_trace(rt: HostRuntime, g: &mut State, kind: TraceKind, i: usize, bench: &
     if fresh {
         power_up(rt, g, kind, bench);
     }
-    make_trace(g, kind, fresh);
+    make_trace(g, kind as usize, fresh);
     bench.run_trace(rt, g);
     bench.absorb_buffers(g);
     show(rt, g, "buffers", [0; 4]);
@@ -77,7 +77,7 @@ pub fn run_line(
     bench.target = unpowered();
     bench.buffers.page.fill(0);
     g.load_part(part);
-    g.load_knobs(kind);
+    g.load_knobs(kind as usize);
     fill_buffers(g, &mut bench.buffers);
     for i in 0..times(g.knobs.traces, count) {
         one_trace(rt, g, kind, i, bench);

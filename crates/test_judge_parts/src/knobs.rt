@@ -61,6 +61,16 @@ impl TraceKind {
     ];
 }
 
+// A number past the last is the first kind's.
+impl From<usize> for TraceKind {
+    fn from(number: usize) -> TraceKind {
+        match TraceKind::ALL.get(number) {
+            Some(kind) => *kind,
+            None => TraceKind::Whole,
+        }
+    }
+}
+
 // How a kind of trace is made. 'one in n' is never for n = 0.
 #[derive(Clone, Copy)]
 pub struct Knobs {

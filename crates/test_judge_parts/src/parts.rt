@@ -2,7 +2,7 @@
 use crate::buffers::{Buffers, Lengths};
 use crate::state::State;
 use crate::tables::{PartRow, part_row};
-use test_kit::numbers::{add, bits_for, byte, count, power, times};
+use test_kit::numbers::{add, bits_for, byte, count, power, set, times};
 
 // What the array holds at first.
 #[derive(Clone, Copy, PartialEq, Eq)]
@@ -121,9 +121,15 @@ fn crc(bytes: &[u8]) -> u16 {
     c
 }
 
-pub fn mend_crc(page: &mut [u8; 260]) {
-    let c = crc(&page[..254]);
-    page[254..256].copy_from_slice(&c.to_le_bytes());
+// Of a page that is shorter the bytes that it lacks count as 0, and none is written past its end.
+pub fn mend_crc(page: &mut [u8]) {
+    let mut looked = [0u8; 254];
+    for (to, &b) in looked.iter_mut().zip(page.iter()) {
+        *to = b;
+    }
+    let [low, high] = crc(&looked).to_le_bytes();
+    set(page, 254, usize::from(low));
+    set(page, 255, usize::from(high));
 }
 
 // Bits that the model does not look at are random, like all other bytes.

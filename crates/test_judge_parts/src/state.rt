@@ -9,7 +9,7 @@ use crate::trace::Trace;
 use test_kit::numbers::{add, byte};
 use test_kit::random::{SEED, drawn};
 
-#[derive(Drop)]
+#[derive(Clone, Copy)]
 pub struct State {
     // the last random number
     random: usize,
@@ -59,8 +59,9 @@ impl State {
         self.measure();
     }
 
-    pub fn load_knobs(&mut self, kind: TraceKind) {
-        self.knobs = Knobs::of(kind);
+    // By the kind's number.
+    pub fn load_knobs(&mut self, kind: usize) {
+        self.knobs = Knobs::of(TraceKind::from(kind));
     }
 
     // Lends what the part asks.

@@ -79,7 +79,22 @@ impl Job {
     }
 }
 
-pub fn one_job(g: &mut State, job: Job) {
+// A number past the last is Order's.
+impl From<usize> for Job {
+    fn from(number: usize) -> Job {
+        match Job::ALL.get(number) {
+            Some(job) => *job,
+            None => Job::Order,
+        }
+    }
+}
+
+// A job by its number.
+pub fn one_job(g: &mut State, job: usize) {
+    do_job(g, Job::from(job));
+}
+
+pub(crate) fn do_job(g: &mut State, job: Job) {
     match job {
         Job::Read => job_read(g),
         Job::LunOut => job_lun_out(g),

@@ -29,12 +29,12 @@ fn put_between(g: &mut State) {
     let lun = pick_lun(g);
     match what {
         0 => put_finish(g, lun),
-        1 => put(g, Kind::Protect, 1),
+        1 => put(g, Kind::Protect as usize, 1),
         2 => put_bad(g),
-        3 => put(g, Kind::Address, 0),
-        4 => put(g, Kind::DataIn, 0),
-        5 => put(g, Kind::Command, 0xe0),
-        6 => put(g, Kind::Command, 0x05),
+        3 => put(g, Kind::Address as usize, 0),
+        4 => put(g, Kind::DataIn as usize, 0),
+        5 => put(g, Kind::Command as usize, 0xe0),
+        6 => put(g, Kind::Command as usize, 0x05),
         _ => {}
     }
 }

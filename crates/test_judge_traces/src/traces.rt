@@ -1,5 +1,5 @@
 // Noise, wrong cycles, and whole traces.
-use crate::job::{drawn_job, one_job};
+use crate::job::{do_job, drawn_job};
 use test_judge_cycles::{Kind, pick_lun, put, put_bad, put_reset};
 use test_judge_parts::knobs::TraceKind;
 use test_judge_parts::state::State;
@@ -47,7 +47,7 @@ fn near_record(g: &mut State) {
         30 => (Kind::Protect, byte(g.below(2))),
         _ => return put_bad(g),
     };
-    put(g, kind, value);
+    put(g, kind as usize, usize::from(value));
 }
 
 fn noise_record(g: &mut State) {
@@ -99,7 +99,7 @@ fn make_wrong(g: &mut State, from: usize) {
 fn put_job(g: &mut State, kind: TraceKind) {
     let from = g.trace.len();
     let job = drawn_job(g, kind);
-    one_job(g, job);
+    do_job(g, job);
     if g.chance(g.knobs.wrong) {
         make_wrong(g, from);
     }
@@ -140,15 +140,20 @@ fn put_early(g: &mut State) {
     for _ in 0..add(4, g.below(24)) {
         put_early_record(g);
     }
-    put(g, Kind::Address, 0xff);
-    put(g, Kind::DataIn, 0xff);
-    let level = byte(g.below(2));
-    put(g, Kind::Protect, level);
+    put(g, Kind::Address as usize, 0xff);
+    put(g, Kind::DataIn as usize, 0xff);
+    let level = g.below(2);
+    put(g, Kind::Protect as usize, level);
     put_reset(g);
-    put(g, Kind::Protect, 1);
+    put(g, Kind::Protect as usize, 1);
 }
 
-pub fn make_trace(g: &mut State, kind: TraceKind, fresh: bool) {
+// By the kind's number.
+pub fn make_trace(g: &mut State, kind: usize, fresh: bool) {
+    make(g, TraceKind::from(kind), fresh);
+}
+
+fn make(g: &mut State, kind: TraceKind, fresh: bool) {
     g.trace.clear();
     if kind == TraceKind::Early {
         put_early(g);

@@ -299,11 +299,11 @@ pub fn early_bytes(rt: HostRuntime) {
     }
 }
 
-const DATA: [u16; 8] = [16, 17, 20, 32, 64, 100, 128, 15];
+const DATA: [usize; 8] = [16, 17, 20, 32, 64, 100, 128, 15];
 
-const LUNS: [u8; 16] = [1, 2, 3, 4, 1, 2, 3, 4, 1, 2, 3, 4, 1, 2, 5, 0];
+const LUNS: [usize; 16] = [1, 2, 3, 4, 1, 2, 3, 4, 1, 2, 3, 4, 1, 2, 5, 0];
 
-const FEATURES: [u16; 8] = [
+const FEATURES: [usize; 8] = [
     0x0102, 0x0002, 0x015a, 0xfffe, 0x0102, 0x0006, 0x0100, 0x0103,
 ];
 
@@ -313,9 +313,9 @@ const CHANGES: [Change; 4] = [Change::Same, Change::More, Change::Less, Change::
 fn drawn_part(x: usize, device: u8) -> Part {
     Part {
         data: DATA[x % 8],
-        spare: (5 * (x / 8 % 4)) as u16,
-        pages: (1 + x / 32 % 5) as u16,
-        blocks: (1 + x / 160 % 6) as u16,
+        spare: 5 * (x / 8 % 4),
+        pages: 1 + x / 32 % 5,
+        blocks: 1 + x / 160 % 6,
         luns: LUNS[x / 960 % 16],
         programs: (1 + x / 15360 % 8) as u8,
         cycles: if x / 64424509440 % 16 == 15 {
@@ -324,7 +324,7 @@ fn drawn_part(x: usize, device: u8) -> Part {
             0x23
         },
         features: FEATURES[x / 122880 % 8],
-        optional: (x / 983040 % 65536) as u16,
+        optional: x / 983040 % 65536,
         maker: (x / 1030792151040 % 256) as u8,
         device,
     }
@@ -387,7 +387,7 @@ pub fn drawn_cases(rt: HostRuntime) {
     }
 }
 
-fn sized(part: Part, pages: u16, blocks: u16, luns: u8) -> Part {
+fn sized(part: Part, pages: usize, blocks: usize, luns: usize) -> Part {
     Part {
         pages,
         blocks,

@@ -4,15 +4,15 @@ use page::crc::page_crc;
 // The sizes of a part and what else its page says.
 #[derive(Clone, Copy)]
 pub struct Part {
-    pub data: u16,
-    pub spare: u16,
-    pub pages: u16,
-    pub blocks: u16,
-    pub luns: u8,
+    pub data: usize,
+    pub spare: usize,
+    pub pages: usize,
+    pub blocks: usize,
+    pub luns: usize,
     pub programs: u8,
     pub cycles: u8,
-    pub features: u16,
-    pub optional: u16,
+    pub features: usize,
+    pub optional: usize,
     pub maker: u8,
     pub device: u8,
 }
@@ -110,16 +110,23 @@ pub fn put(dst: &mut [u8], change: Option<(usize, u8)>) {
     }
 }
 
+// The low bytes of a number, as many as there is room for.
+fn put_low(room: &mut [u8], n: usize) {
+    for (to, b) in room.iter_mut().zip(n.to_le_bytes()) {
+        *to = b;
+    }
+}
+
 fn put_part(page: &mut [u8; 300], p: Part) {
     page[0..4].copy_from_slice(b"ONFI");
-    page[6..8].copy_from_slice(&p.features.to_le_bytes());
-    page[8..10].copy_from_slice(&p.optional.to_le_bytes());
+    put_low(&mut page[6..8], p.features);
+    put_low(&mut page[8..10], p.optional);
     page[64] = p.maker;
-    page[80..84].copy_from_slice(&u32::from(p.data).to_le_bytes());
-    page[84..86].copy_from_slice(&p.spare.to_le_bytes());
-    page[92..96].copy_from_slice(&u32::from(p.pages).to_le_bytes());
-    page[96..100].copy_from_slice(&u32::from(p.blocks).to_le_bytes());
-    page[100] = p.luns;
+    put_low(&mut page[80..84], p.data);
+    put_low(&mut page[84..86], p.spare);
+    put_low(&mut page[92..96], p.pages);
+    put_low(&mut page[96..100], p.blocks);
+    put_low(&mut page[100..101], p.luns);
     page[101] = p.cycles;
     page[110] = p.programs;
 }
@@ -147,8 +154,8 @@ pub fn lengths_of(size: usize, pages: usize, blocks: usize, luns: usize) -> Leng
 }
 
 pub fn wanted(p: Part, h: Harm) -> Lengths {
-    let size = p.data as usize + p.spare as usize;
-    let l = lengths_of(size, p.pages as usize, p.blocks as usize, p.luns as usize);
+    let size = p.data.saturating_add(p.spare);
+    let l = lengths_of(size, p.pages, p.blocks, p.luns);
     Lengths {
         array: h.array.of(l.array),
         registers: h.registers.of(l.registers),

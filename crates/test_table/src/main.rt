@@ -7,9 +7,8 @@ use test_table_model::bench::Bench;
 use test_table_read::reading::Reader;
 use test_table_read::tally::Tally;
 
-// A table by its characters, on a bench of its own.
-fn run(rt: HostRuntime, table: &[u8], reader: &mut Reader, tally: &mut Tally) {
-    let mut bench = Bench::new();
+// A table by its characters.
+fn run(rt: HostRuntime, table: &[u8], bench: &mut Bench, reader: &mut Reader, tally: &mut Tally) {
     for &c in table {
         if let Some(word) = reader.take(rt, tally, c) {
             bench.take(rt, tally, &word);
@@ -42,10 +41,12 @@ fn main(rt: HostRuntime) {
     let mut text = [0u8; 524288];
     let mut reader = Reader::new();
     let mut tally = Tally::new();
+    let mut bench = Bench::new();
     // the second file's lines are counted on from the first's
     for path in [b"table".as_slice(), b"table2"] {
         let size = load(rt, path, &mut text);
-        run(rt, &text[..size], &mut reader, &mut tally);
+        bench.begin_file();
+        run(rt, &text[..size], &mut bench, &mut reader, &mut tally);
     }
     show(rt, &tally);
 }

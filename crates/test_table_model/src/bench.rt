@@ -3,7 +3,7 @@ use crate::spoils::spoil;
 use power::unpowered;
 use target::{Event, Reply, Target, reply_first, reply_second};
 use test_kit::compare::differing;
-use test_kit::numbers::{byte, set};
+use test_kit::numbers::{add, byte, set};
 use test_lent::{Lengths, lent_power, lent_run, lent_step};
 use test_table_read::reading::{Kind, Word};
 use test_table_read::tally::{Buffer, Item, Tally};
@@ -19,8 +19,17 @@ type Registers = [u8; 1057];
 // Counts or flags.
 type Few = [u8; 65];
 
-// A trace, or what its reply room is to hold.
-type Tape = [u8; 64];
+// What array, registers and counts are to hold, one behind the other: a place past the array's end is one of the registers.
+type Expected = [u8; 34915];
+
+const REGISTERS_AT: usize = 33793;
+
+const COUNTS_AT: usize = 34850;
+
+// A trace, and behind it what its reply room is to hold: a record past the trace's end is a byte of that.
+type Tape = [u8; 128];
+
+const ROOM_AT: usize = 64;
 
 // A part, and how much of each buffer is lent.
 #[derive(Drop)]
@@ -108,25 +117,23 @@ impl State {
     }
 }
 
-// The bytes of a trace, and what its reply room is to hold.
+// A trace, and how many of its bytes are run.
 #[derive(Clone, Copy)]
 struct Trace {
-    records: Tape,
+    tape: Tape,
     length: usize,
-    replies: Tape,
 }
 
 const NO_TRACE: Trace = Trace {
-    records: [0xee; 64],
+    tape: [0xee; 128],
     length: 0,
-    replies: [0xee; 64],
 };
 
 #[derive(Drop)]
 pub struct Bench {
     part: Part,
     state: State,
-    expected: Buffers,
+    expected: Expected,
     trace: Trace,
 }
 
@@ -138,19 +145,14 @@ fn lay(array: &mut [u8]) {
 }
 
 // `times` bytes from place `at` on.
-fn expect(buffer: &mut [u8], at: usize, times: usize, v: usize) {
-    for b in buffer.iter_mut().skip(at).take(times) {
+fn expect(expected: &mut Expected, at: usize, times: usize, v: usize) {
+    for b in expected.iter_mut().skip(at).take(times) {
         *b = byte(v);
     }
 }
 
 impl Bench {
     pub fn new() -> Bench {
-        let buffers = Buffers {
-            array: [0; 33793],
-            registers: [0; 1057],
-            counts: [0; 65],
-        };
         Bench {
             part: Part {
                 lengths: Lengths {
@@ -167,11 +169,27 @@ impl Bench {
             },
             state: State {
                 target: unpowered(),
-                buffers,
+                buffers: Buffers {
+                    array: [0; 33793],
+                    registers: [0; 1057],
+                    counts: [0; 65],
+                },
             },
-            expected: buffers,
+            expected: [0; 34915],
             trace: NO_TRACE,
         }
+    }
+
+    // A file begins: all is as new, but that the numbers of line L stay until it has such a line.
+    pub fn begin_file(&mut self) {
+        self.part.clear();
+        self.state.target = unpowered();
+        let buffers = &mut self.state.buffers;
+        buffers.array.fill(0);
+        buffers.registers.fill(0);
+        buffers.counts.fill(0);
+        self.expected.fill(0);
+        self.trace.tape.fill(0xee);
     }
 
     // Does what a word says.
@@ -179,18 +197,18 @@ impl Bench {
         let [x, y, _] = word.numbers;
         match word.kind {
             Kind::Part => self.part.clear(),
-            Kind::Lengths => self.part.set_length(word.place, x),
+            Kind::Lengths => self.set_number(tally, word.place, x),
             Kind::Page => set(&mut self.part.page, x, y),
             Kind::FirstCounts => set(&mut self.part.counts, x, y),
             Kind::Flags => set(&mut self.part.flags, x, y),
-            Kind::Array => expect(&mut self.expected.array, x, word.times, y),
-            Kind::Registers => expect(&mut self.expected.registers, x, word.times, y),
-            Kind::Counts => expect(&mut self.expected.counts, x, word.times, y),
+            Kind::Array => expect(&mut self.expected, x, word.times, y),
+            Kind::Registers => expect(&mut self.expected, add(REGISTERS_AT, x), word.times, y),
+            Kind::Counts => expect(&mut self.expected, add(COUNTS_AT, x), word.times, y),
             Kind::Trace => {
-                set(&mut self.trace.records, word.place, x);
+                set(&mut self.trace.tape, word.place, x);
                 self.trace.length = self.trace.length.wrapping_add(1);
             }
-            Kind::Replies => set(&mut self.trace.replies, word.place, x),
+            Kind::Replies => set(&mut self.trace.tape, add(ROOM_AT, word.place), x),
             Kind::PowerOn => self.power(rt, tally, word),
             Kind::Events => self.events(rt, tally, word),
             Kind::Cells => self.cell(rt, tally, word),
@@ -201,18 +219,38 @@ impl Bench {
         }
     }
 
-    // Power-on with everything as new. Right after it the registers are FFh if it is accepted, else as they were.
+    // A number of line L: the six that it has, and past them the trace's length and what is counted.
+    fn set_number(&mut self, tally: &mut Tally, place: usize, n: usize) {
+        match place {
+            0..=5 => self.part.set_length(place, n),
+            6 => self.trace.length = n,
+            _ => tally.set(place - 7, n),
+        }
+    }
+
+    // What is expected of the buffers right after a power-on: the registers are FFh if it is accepted, else as they were.
+    fn expect_power(&mut self, accepted: bool) {
+        lay(&mut self.expected);
+        expect(
+            &mut self.expected,
+            REGISTERS_AT,
+            1057,
+            if accepted { 0xff } else { 0 },
+        );
+        for (i, &count) in self.part.counts.iter().enumerate() {
+            set(&mut self.expected, add(COUNTS_AT, i), count as usize);
+        }
+    }
+
+    // Power-on with everything as new.
     fn power(&mut self, rt: HostRuntime, tally: &mut Tally, word: &Word) {
         let due = word.numbers[0];
+        self.expect_power(due == 0);
         let part = &self.part;
         let buffers = &mut self.state.buffers;
         lay(&mut buffers.array);
         buffers.registers = [0; 1057];
         buffers.counts = part.counts;
-        self.expected = *buffers;
-        if due == 0 {
-            self.expected.registers = [0xff; 1057];
-        }
         let on = lent_power(
             part.lengths,
             part.device,
@@ -277,16 +315,23 @@ impl Bench {
         } = self.part.lengths;
         let due = &self.expected;
         let got = &self.state.buffers;
-        tally.compare_bytes(rt, word, Buffer::Array, array, &due.array, &got.array);
+        tally.compare_bytes(rt, word, Buffer::Array, array, due, &got.array);
         tally.compare_bytes(
             rt,
             word,
             Buffer::Registers,
             registers,
-            &due.registers,
+            &due[REGISTERS_AT..],
             &got.registers,
         );
-        tally.compare_bytes(rt, word, Buffer::Counts, counts, &due.counts, &got.counts);
+        tally.compare_bytes(
+            rt,
+            word,
+            Buffer::Counts,
+            counts,
+            &due[COUNTS_AT..],
+            &got.counts,
+        );
     }
 
     // A byte trace, its answer as a whole and every byte of its reply room.
@@ -298,7 +343,7 @@ impl Bench {
         let ran = lent_run(
             self.state.target,
             part.lengths,
-            &self.trace.records,
+            &self.trace.tape,
             self.trace.length,
             &mut room,
             lent,
@@ -311,7 +356,8 @@ impl Bench {
         self.state.target = ran.unwrap_or(self.state.target);
         let got = run_number(ran) as usize;
         tally.compare(rt, word, Item::Run, due, got);
-        tally.compare_bytes(rt, word, Buffer::Replies, 64, &self.trace.replies, &room);
+        let due = &self.trace.tape[ROOM_AT..];
+        tally.compare_bytes(rt, word, Buffer::Replies, 64, due, &room);
         self.trace = NO_TRACE;
     }
 }

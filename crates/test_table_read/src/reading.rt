@@ -174,7 +174,8 @@ impl Reader {
             Kind::Unknown => tally.unreadable(rt, self.line, c),
             _ => {}
         }
-        self.kind = Some(kind);
+        // a NUL is told and is no letter: the line's is still to come
+        self.kind = if c == 0 { None } else { Some(kind) };
     }
 
     // A character of a word; 'x' stands for any digit, in the byte of a reply.

@@ -82,6 +82,23 @@ impl Tally {
         }
     }
 
+    // What is counted, by its place in the summary.
+    pub fn set(&mut self, place: usize, n: usize) {
+        match place {
+            0 => self.states = n,
+            1 => self.cells = n,
+            2 => self.cases = n,
+            3 => self.power_ons = n,
+            4 => self.runs = n,
+            5 => self.replies = n,
+            6 => self.bytes = n,
+            7 => self.kept = n,
+            8 => self.found = n,
+            9 => self.mismatches = n,
+            _ => {}
+        }
+    }
+
     pub fn begin_state(&mut self) {
         one_more(&mut self.states);
         self.wrong = false;

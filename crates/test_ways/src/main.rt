@@ -29,13 +29,20 @@ struct Buffers {
 // No bad block.
 const GOOD: [u8; 16] = [0; 16];
 
-// The buffers right after power-on.
-fn fresh() -> Buffers {
-    Buffers {
-        room: [0xee; 49160],
-        array: [0xff; 33792],
-        registers: [0xff; 1056],
-        counts: [0; 64],
+const NEW: Buffers = Buffers {
+    room: [0; 49160],
+    array: [0; 33792],
+    registers: [0; 1056],
+    counts: [0; 64],
+};
+
+impl Buffers {
+    // As they are right after power-on, in their own place: a set handed on by value would take as much stack again.
+    fn refresh(&mut self) {
+        self.room.fill(0xee);
+        self.array.fill(0xff);
+        self.registers.fill(0xff);
+        self.counts.fill(0);
     }
 }
 
@@ -156,16 +163,18 @@ fn by_bytes(rt: HostRuntime, t: Target, page: &Page, records: &Records, buffers:
 }
 
 fn all_ways(rt: HostRuntime, page: &Page, records: &Records) {
-    let mut bytes = fresh();
-    bytes.registers = [0; 1056];
+    let mut bytes = NEW;
+    bytes.refresh();
+    bytes.registers.fill(0);
     let t = power(rt, page, &mut bytes);
     by_bytes(rt, t, page, records, &mut bytes);
-    let mut batches = fresh();
-    by_batches(t, page, records, &mut batches);
-    compare(rt, "batches", &bytes, &batches);
-    let mut events = fresh();
-    by_events(t, page, records, &mut events);
-    compare(rt, "one at a time", &bytes, &events);
+    let mut other = NEW;
+    other.refresh();
+    by_batches(t, page, records, &mut other);
+    compare(rt, "batches", &bytes, &other);
+    other.refresh();
+    by_events(t, page, records, &mut other);
+    compare(rt, "one at a time", &bytes, &other);
 }
 
 fn main(rt: HostRuntime) {
